@@ -1,0 +1,12 @@
+pub mod AroundKeys
+pub mod Cuts
+pub mod Filters
+pub mod Finds
+pub mod Growing
+pub mod Histories
+pub mod Kept
+pub mod KeptCalls
+mod Pages
+pub mod Parts
+pub mod Places
+pub mod PlainHistories

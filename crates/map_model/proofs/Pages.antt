@@ -1,0 +1,78 @@
+-- How the pairs of a page are cut out of its bytes.
+use Rattle.std.proofs.Common.{◌≡◌, ℕ, zero, suc, ◌-◌, ◌<◌, ◌≤◌, List, [], ◌∷◌, ◌++◌, refl, ap, ◌∙◌, arith, length, get_or, take, drop, slice_range, length-append, length-drop, append_assoc}
+use Rattle.std.proofs.lemmas.List.{take-append-le, drop-append-le, take_all}
+use Rattle.std.proofs.Math.Seq.{drop-append_seam}
+use Rattle.map_model.specs.Maps.{Pairs}
+use Rattle.map_model.specs.Pages.{cut, AreEnds, start_at}
+
+pub length-cut : (bytes : List ℕ) (from : ℕ) (ends : List (ℕ × ℕ)) → length (cut bytes from ends) ≡ length ends
+length-cut bytes from [] = refl
+length-cut bytes from (end ∷ ends) = ap suc (length-cut bytes end.1 ends)
+
+-- the pair at a place
+pub cut-at : (bytes : List ℕ) (from : ℕ) (ends : List (ℕ × ℕ)) (i : ℕ) (p : List ℕ × List ℕ) (e : ℕ × ℕ) → i < length ends
+    → get_or (cut bytes from ends) i p ≡ (slice_range bytes (start_at from ends i) (get_or ends i e).0, slice_range bytes (get_or ends i e).0 (get_or ends i e).1)
+cut-at bytes from [] i p e lt = absurd (omega arith)
+cut-at bytes from (end ∷ ends) zero p e lt = refl
+cut-at bytes from (end ∷ ends) (suc i) p e lt = cut-at bytes end.1 ends i p e (omega arith)
+
+-- a pair begins where the one before ended
+pub start_at-suc : (from : ℕ) (ends : List (ℕ × ℕ)) (i : ℕ) (e : ℕ × ℕ) → i < length ends → start_at from ends (suc i) ≡ (get_or ends i e).1
+start_at-suc from [] i e lt = absurd (omega arith)
+start_at-suc from (end ∷ ends) zero e lt = refl
+start_at-suc from (end ∷ ends) (suc i) e lt = start_at-suc end.1 ends i e (omega arith)
+
+-- the places of a pair are in order, and in the bytes
+pub ends-at : (from : ℕ) (ends : List (ℕ × ℕ)) (len i : ℕ) (e : ℕ × ℕ) → AreEnds from ends len → i < length ends
+    → (start_at from ends i ≤ (get_or ends i e).0) × ((get_or ends i e).0 ≤ (get_or ends i e).1) × ((get_or ends i e).1 ≤ len)
+ends-at from [] len i e are lt = absurd (omega arith)
+ends-at from (end ∷ ends) len zero e are lt = (are.0, are.1, are.2)
+ends-at from (end ∷ ends) len (suc i) e are lt = ends-at end.1 ends len i e are.3 (omega arith)
+
+-- a cut of the front of some bytes
+range_front : (xs ys : List ℕ) (a b : ℕ) → a ≤ b → b ≤ length xs → slice_range (xs ++ ys) a b ≡ slice_range xs a b
+range_front xs ys a b le in_range =
+    ap (take (b - a)) (drop-append-le a xs ys (omega arith)) ∙ take-append-le (b - a) (drop a xs) ys (omega (arith, length-drop a xs))
+
+-- more bytes behind leave the pairs
+pub cut-more : (bytes more : List ℕ) (from : ℕ) (ends : List (ℕ × ℕ)) → AreEnds from ends (length bytes) → cut (bytes ++ more) from ends ≡ cut bytes from ends
+cut-more bytes more from [] are = refl
+cut-more bytes more from (end ∷ ends) are =
+    let key = range_front bytes more from end.0 are.0 (omega (arith, are.1, are.2)) in
+    let value = range_front bytes more end.0 end.1 are.1 are.2 in
+    ap (λ (k : List ℕ). (k, slice_range (bytes ++ more) end.0 end.1) ∷ cut (bytes ++ more) end.1 ends) key
+    ∙ (ap (λ (v : List ℕ). (slice_range bytes from end.0, v) ∷ cut (bytes ++ more) end.1 ends) value
+    ∙ ap (λ (t : Pairs (List ℕ)). (slice_range bytes from end.0, slice_range bytes end.0 end.1) ∷ t) (cut-more bytes more end.1 ends are.3))
+
+-- one more pair behind the others
+pub ends-push : (from : ℕ) (ends : List (ℕ × ℕ)) (len a b : ℕ) → AreEnds from ends len → len ≤ a → a ≤ b → AreEnds from (ends ++ (a, b) ∷ []) b
+ends-push from [] len a b are le le' = (omega (arith, are), le', omega arith, refl)
+ends-push from (end ∷ ends) len a b are le le' = (are.0, are.1, omega (arith, are.2), ends-push end.1 ends len a b are.3 le le')
+
+pub cut-push : (bytes : List ℕ) (from : ℕ) (ends : List (ℕ × ℕ)) (len a b : ℕ) → AreEnds from ends len
+    → cut bytes from (ends ++ (a, b) ∷ []) ≡ cut bytes from ends ++ (slice_range bytes len a, slice_range bytes a b) ∷ []
+cut-push bytes from [] len a b are = ap (λ n. (slice_range bytes n a, slice_range bytes a b) ∷ []) are
+cut-push bytes from (end ∷ ends) len a b are = ap (λ (t : Pairs (List ℕ)). (slice_range bytes from end.0, slice_range bytes end.0 end.1) ∷ t) (cut-push bytes end.1 ends len a b are.3)
+
+-- the key and the value that were put behind
+pub range_key : (bytes key value : List ℕ) → slice_range ((bytes ++ key) ++ value) (length bytes) (length (bytes ++ key)) ≡ key
+range_key bytes key value =
+    let count : length (bytes ++ key) - length bytes ≡ length key = omega (arith, length-append bytes key) in
+    ap (λ n. take n (drop (length bytes) ((bytes ++ key) ++ value))) count
+    ∙ (ap (λ (xs : List ℕ). take (length key) (drop (length bytes) xs)) (append_assoc bytes key value)
+    ∙ (ap (take (length key)) (drop-append_seam bytes (key ++ value))
+    ∙ (take-append-le (length key) key value (omega arith) ∙ take_all (length key) key (omega arith))))
+
+pub range_value : (bytes key value : List ℕ) → slice_range ((bytes ++ key) ++ value) (length (bytes ++ key)) (length ((bytes ++ key) ++ value)) ≡ value
+range_value bytes key value =
+    let count = length ((bytes ++ key) ++ value) - length (bytes ++ key) in
+    ap (take count) (drop-append_seam (bytes ++ key) value) ∙ take_all count value (omega (arith, length-append (bytes ++ key) value))
+
+pub pushed : (bytes key value : List ℕ) (ends : List (ℕ × ℕ)) → AreEnds 0 ends (length bytes)
+    → cut ((bytes ++ key) ++ value) 0 (ends ++ (length (bytes ++ key), length ((bytes ++ key) ++ value)) ∷ []) ≡ cut bytes 0 ends ++ (key, value) ∷ []
+pushed bytes key value ends are =
+    let all = (bytes ++ key) ++ value in
+    cut-push all 0 ends (length bytes) _ _ are
+    ∙ (ap (λ (t : Pairs (List ℕ)). t ++ (slice_range all (length bytes) (length (bytes ++ key)), slice_range all (length (bytes ++ key)) (length all)) ∷ []) (ap (λ b. cut b 0 ends) (append_assoc bytes key value) ∙ cut-more bytes (key ++ value) 0 ends are)
+    ∙ (ap (λ (k : List ℕ). cut bytes 0 ends ++ (k, slice_range all (length (bytes ++ key)) (length all)) ∷ []) (range_key bytes key value)
+    ∙ ap (λ (v : List ℕ). cut bytes 0 ends ++ (key, v) ∷ []) (range_value bytes key value)))

@@ -1,0 +1,15 @@
+//! The sequential map and its histories, and the trait of every store that answers as that map.
+#![tactic(auto)]
+
+mod ordered;
+mod page;
+mod plain;
+mod refusal;
+
+pub use ordered::Ordered;
+pub use page::Page;
+pub use plain::PlainMap;
+pub use refusal::{Again, ForkFault, Full, Refusal, TableFull};
+
+#[cfg(test)]
+mod tests;
