@@ -1,0 +1,7 @@
+pub mod Causes
+pub mod Memory
+pub mod Moved
+pub mod Plans
+pub mod Reading
+pub mod Standard
+pub mod Writing
