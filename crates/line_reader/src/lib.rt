@@ -1,0 +1,14 @@
+//! Lines of bytes that come in pieces.
+//!
+//! A reader takes pieces however they are cut and tells the same lines. It keeps no more than one
+//! line, in a buffer that is reserved once; a line that is longer than that is told as too long.
+#![tactic(auto)]
+
+mod cut;
+mod lines;
+mod pieces;
+#[cfg(test)]
+mod tests;
+
+pub use lines::{Event, Lines, Taken};
+pub use pieces::read_all;
