@@ -1,0 +1,6 @@
+pub mod Again
+pub mod Escapes
+pub mod Limits
+pub mod OneLine
+pub mod Serving
+pub mod Splits

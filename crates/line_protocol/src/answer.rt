@@ -1,0 +1,116 @@
+//! The lines of answers.
+ghost use Rattle.line_protocol.specs.ReplyLine.{AppendsAll};
+ghost use Rattle.line_protocol.specs.Texts.{text, again_text, full_text, fault_text, pair_line};
+
+use crate::Fault;
+use crate::reply_line::{append_numbers, append_words};
+use map_model::{Again, Full};
+use std::alloc::AllocError;
+
+/// What a request is answered.
+#[derive(Drop)]
+pub enum Answer<'a> {
+    /// A put made the key.
+    New,
+    /// A put replaced the key's value.
+    Set,
+    /// The value that a get found.
+    Value(&'a [u8]),
+    /// A get or a del found no such key.
+    Absent,
+    /// A del took the key away.
+    Gone,
+    /// A scan ended behind so many pairs.
+    End(u64),
+    /// The session ends.
+    Bye,
+    /// The line is no request.
+    Fault(Fault),
+    /// The store has no room.
+    Full(Full),
+    /// Another lane was in the way.
+    Again(Again),
+    /// The store had no memory.
+    NoMemory,
+}
+
+/// Appends the line of an answer, or nothing where there is no memory for it.
+pub fn reply_text(out: &mut Vec<u8>, answer: &Answer<'_>) -> Result<(), AllocError>
+    ensures { AppendsAll result out.old.items out.new.items (text answer.now) }
+{
+    match answer {
+        Answer::New => append_numbers(out, b"NEW", &[]),
+        Answer::Set => append_numbers(out, b"SET", &[]),
+        Answer::Value(value) => append_words(out, b"VALUE", &[*value]),
+        Answer::Absent => append_numbers(out, b"NONE", &[]),
+        Answer::Gone => append_numbers(out, b"GONE", &[]),
+        Answer::End(count) => append_numbers(out, b"END", &[*count]),
+        Answer::Bye => append_numbers(out, b"BYE", &[]),
+        Answer::Fault(fault) => fault_reply(out, *fault),
+        Answer::Full(full) => full_reply(out, *full),
+        Answer::Again(again) => again_reply(out, *again),
+        Answer::NoMemory => append_numbers(out, b"NOMEM", &[]),
+    }
+}
+
+/// Appends the line of a pair of a scan, or nothing where there is no memory for it.
+pub fn pair_text(out: &mut Vec<u8>, key: &[u8], value: &[u8]) -> Result<(), AllocError>
+    ensures { AppendsAll result out.old.items out.new.items (pair_line key.now value.now) }
+{
+    append_words(out, b"PAIR", &[key, value])
+}
+
+fn fault_reply(out: &mut Vec<u8>, fault: Fault) -> Result<(), AllocError>
+    ensures { AppendsAll result out.old.items out.new.items (fault_text fault) }
+{
+    match fault {
+        Fault::Command => append_numbers(out, b"ERR 1 command", &[]),
+        Fault::Words => append_numbers(out, b"ERR 2 words", &[]),
+        Fault::Key => append_numbers(out, b"ERR 3 key", &[]),
+        Fault::Value => append_numbers(out, b"ERR 4 value", &[]),
+        Fault::Limit => append_numbers(out, b"ERR 5 limit", &[]),
+        Fault::Line => append_numbers(out, b"ERR 6 line", &[]),
+    }
+}
+
+fn full_reply(out: &mut Vec<u8>, full: Full) -> Result<(), AllocError>
+    ensures { AppendsAll result out.old.items out.new.items (full_text full) }
+{
+    match full {
+        Full::Values { drawn, cap } => append_numbers(out, b"FULL values", &[drawn, cap]),
+        Full::Crowded { count, hard, .. } => {
+            append_numbers(out, b"FULL crowded", &[u64::from(count), u64::from(hard)])
+        }
+    }
+}
+
+fn again_reply(out: &mut Vec<u8>, again: Again) -> Result<(), AllocError>
+    ensures { AppendsAll result out.old.items out.new.items (again_text again) }
+{
+    match again {
+        Again::Locked { leaf, holder } => {
+            append_numbers(out, b"AGAIN locked", &[u64::from(leaf), u64::from(holder)])
+        }
+        Again::Changed {
+            leaf,
+            before,
+            after,
+        } => append_numbers(out, b"AGAIN changed", &[u64::from(leaf), before, after]),
+        Again::Stale {
+            leaf,
+            expected,
+            searched,
+        } => append_numbers(out, b"AGAIN stale", &[u64::from(leaf), expected, searched]),
+        Again::Moved { first, second } => append_numbers(out, b"AGAIN moved", &[first, second]),
+        Again::Turn { holder } => append_numbers(out, b"AGAIN turn", &[u64::from(holder)]),
+        Again::Pinned { table, pins } => {
+            append_numbers(out, b"AGAIN pinned", &[u64::from(table), pins])
+        }
+        Again::Bin { holder } => append_numbers(out, b"AGAIN bin", &[u64::from(holder)]),
+        Again::Filled { leaf, count, hard } => append_numbers(
+            out,
+            b"AGAIN filled",
+            &[u64::from(leaf), u64::from(count), u64::from(hard)],
+        ),
+    }
+}

@@ -1,0 +1,24 @@
+//! The line protocol of an ordered map: requests, read from lines, and replies, written as lines.
+//!
+//! A line is cut into words at each space, and a word has a byte that stands for no letter as `%` and
+//! two hexadecimal digits.
+#![tactic(auto)]
+
+mod answer;
+mod escape;
+mod fault;
+mod laws;
+mod parts;
+mod read;
+mod reply_line;
+mod request;
+#[cfg(test)]
+mod tests;
+mod words;
+
+pub use answer::{Answer, pair_text, reply_text};
+pub use fault::{Fault, RequestFault};
+pub use laws::{escaped_words, one_line, request_again, unescape_again, worked_lines};
+pub use line_reader::{Event, Lines, Taken, read_all};
+pub use read::read_request;
+pub use request::Request;

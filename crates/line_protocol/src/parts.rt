@@ -1,0 +1,92 @@
+//! The parts of a request.
+ghost use Rattle.std.specs.Prelude.{◌≡◌, ◌≤◌, IfOk};
+ghost use Rattle.key_bytes.specs.Lengths.{IsKey};
+ghost use Rattle.line_protocol.specs.Parts.{Answers, as_key, key_of, value_of, end_of, limit_of};
+ghost use Rattle.line_protocol.specs.Requests.{IsEnd, IsValue};
+
+use crate::escape::{unescape, unescape_into};
+use crate::{Fault, RequestFault};
+use key_bytes::{Bound, Bytes, Key, KeyFault};
+use memchr::memchr;
+use std::alloc::Global;
+
+/// The key that a word stands for. Only the key itself takes memory.
+pub(crate) fn read_key(alloc: Global, word: &[u8]) -> Result<Key, RequestFault>
+    ensures answers { Answers result (key_of word.now) }
+    ensures key { IfOk result IsKey }
+{
+    match memchr(b'%', word) {
+        None => copied_key(alloc, word),
+        Some(_) => escaped_key(alloc, word),
+    }
+}
+
+/// The key of a word with escapes, which are read into a buffer that has room for the longest key.
+fn escaped_key(alloc: Global, word: &[u8]) -> Result<Key, RequestFault>
+    ensures answers { Answers result (key_of word.now) }
+    ensures key { IfOk result IsKey }
+{
+    let mut buffer = [0; 255];
+    match unescape_into(&mut buffer, word) {
+        None => Err(RequestFault::Fault(Fault::Key)),
+        Some(length) => copied_key(alloc, &buffer[..length]),
+    }
+}
+
+/// The key of these bytes.
+fn copied_key(alloc: Global, bytes: &[u8]) -> Result<Key, RequestFault>
+    ensures answers { Answers result (as_key bytes.now) }
+    ensures key { IfOk result IsKey }
+{
+    match Key::new(alloc, bytes) {
+        Ok(key) => Ok(key),
+        Err(KeyFault::Empty) => Err(RequestFault::Fault(Fault::Key)),
+        Err(KeyFault::TooLong(_)) => Err(RequestFault::Fault(Fault::Key)),
+        Err(KeyFault::NoMemory) => Err(RequestFault::NoMemory),
+    }
+}
+
+/// The value that a word stands for, copied once.
+pub(crate) fn read_value(alloc: Global, word: &[u8]) -> Result<Bytes, RequestFault>
+    ensures answers { Answers result (value_of word.now) }
+    ensures value { IfOk result IsValue }
+{
+    let bytes = unescape(alloc, word)?;
+    if bytes.as_slice().len() > 1024 {
+        return Err(RequestFault::Fault(Fault::Value));
+    }
+    Ok(Bytes::of(bytes.into_owned(alloc)?))
+}
+
+/// The end of a scan that a word stands for; `*` alone is the open one.
+pub(crate) fn read_end(alloc: Global, word: &[u8], bare: Bound) -> Result<Bound, RequestFault>
+    ensures answers { Answers result (end_of bare word.now) }
+    ensures end { IfOk result (IsEnd bare) }
+{
+    if word == b"*".as_slice() {
+        return Ok(bare);
+    }
+    let key = read_key(alloc, word)?;
+    Ok(Bound::At(key))
+}
+
+/// The limit of a scan.
+pub(crate) fn read_limit(word: &[u8]) -> Result<u32, RequestFault>
+    ensures limit { result ≡ limit_of word.now }
+    ensures most { IfOk result (λ limit. limit ≤ 1000000) }
+{
+    if word.is_empty() || word.len() > 7 {
+        return Err(RequestFault::Fault(Fault::Limit));
+    }
+    let mut limit: u32 = 0;
+    for digit in word {
+        if !digit.is_ascii_digit() {
+            return Err(RequestFault::Fault(Fault::Limit));
+        }
+        limit = limit * 10 + u32::from(*digit - b'0');
+    }
+    if limit > 1_000_000 {
+        return Err(RequestFault::Fault(Fault::Limit));
+    }
+    Ok(limit)
+}
