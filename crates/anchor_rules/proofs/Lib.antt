@@ -1,0 +1,13 @@
+pub mod Spans
+pub mod Edits
+pub mod Tallies
+pub mod Closings
+pub mod Prefixes
+pub mod ItemParts
+pub mod Ends
+pub mod ItemsAround
+pub mod ItemChanges
+pub mod Ats
+pub mod Found
+pub mod Parts
+pub mod Sizes

@@ -1,0 +1,5 @@
+pub mod Anchors
+pub mod Closing
+pub mod Items
+pub mod Tally
+pub mod Places
