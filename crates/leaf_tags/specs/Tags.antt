@@ -1,0 +1,26 @@
+-- Tags with places, as a list.
+use Rattle.std.specs.Prelude.{ℕ, ◌*◌, ◌/◌, ◌<◌, ◌≤◌, List, length, slice_index_or, filter, nat_lt}
+use Rattle.std.specs.List.Sorted.{IsNonDecreasingBy}
+
+-- the pairs of a tag and a place, and the number of pairs for which there is room
+pub record TagList : Type 0 where
+  pub pairs : List (ℕ × ℕ)
+  pub spare : ℕ
+
+-- the tags ascend
+abbrev pub IsByTag : List (ℕ × ℕ) → Type 0
+IsByTag pairs = IsNonDecreasingBy (λ (p : ℕ × ℕ). p.0) pairs
+
+-- where a tag would stand among this many tags that are spread evenly
+abbrev pub first_place : ℕ → ℕ → ℕ
+first_place tag count = tag * count / 65536
+
+-- the pairs whose place is below a number
+abbrev pub places_below : ℕ → List (ℕ × ℕ) → List (ℕ × ℕ)
+places_below count pairs = filter (λ (p : ℕ × ℕ). nat_lt p.1 count) pairs
+
+-- the pairs before place i have lower tags, the others don't
+pub record IsCut (pairs : List (ℕ × ℕ)) (tag i : ℕ) : Type 0 where
+  pub in_range : i ≤ length pairs
+  pub lower : (k : ℕ) (d : ℕ × ℕ) → k < i → (slice_index_or pairs k d).0 < tag
+  pub upper : (k : ℕ) (d : ℕ × ℕ) → i ≤ k → k < length pairs → tag ≤ (slice_index_or pairs k d).0

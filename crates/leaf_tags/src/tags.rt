@@ -1,0 +1,232 @@
+//! Tags in ascending order, each with a place.
+ghost use Rattle.std.specs.Prelude.{◌≡◌, ℕ, ◌+◌, ◌<◌, ◌≤◌, ◌⊎◌, List, ◌∷◌, [], true, false, length, slice_index_or, MatchOption, OnOk, IsOk, Some};
+ghost use Rattle.std.specs.List.{Contains};
+ghost use Rattle.std.specs.List.Sorted.{IsPermutation};
+ghost use Rattle.leaf_tags.specs.Tags.{first_place, places_below, IsByTag, IsCut};
+
+use std::alloc::{AllocError, Global};
+use std::marker::Model;
+
+/// Pairs of a tag and a place, in ascending order of their tags.
+///
+/// Pairs of one tag stand beside each other in no particular order. A pair takes 16 bytes, all in
+/// one block of memory.
+#[derive(Drop)]
+pub struct Tags {
+    pairs: Vec<(u16, usize)>,
+}
+
+impl Model for Tags {
+    ghost use Rattle.std.specs.Prelude.{ℕ, ◌-◌, length, vec_capacity};
+    ghost use Rattle.leaf_tags.specs.Tags.{TagList, IsByTag};
+
+    ghost Value = { TagList };
+
+    ghost view = { λ t. record { pairs = t.pairs.items; spare = vec_capacity t.pairs - length t.pairs.items } };
+
+    ghost invariant = { λ t. IsByTag t.pairs.items };
+}
+
+// Where a tag would stand among `count` tags that are spread evenly over all 65,536.
+fn first_place(tag: u16, count: usize) -> usize
+    ensures place { result ≡ first_place tag count }
+    ensures in_range { result ≤ count }
+{
+    (u128::from(tag) * count as u128 / 65536) as usize
+}
+
+impl Tags {
+    /// No pairs. It takes no memory until room is reserved.
+    pub fn new(alloc: Global) -> Tags
+        ensures { result.pairs ≡ [] }
+    {
+        Tags {
+            pairs: Vec::new(alloc),
+        }
+    }
+
+    /// The number of pairs.
+    pub fn len(&self) -> usize
+        ensures len { result ≡ length self.now.pairs }
+        ensures ascending { IsByTag self.now.pairs }
+    {
+        self.pairs.len()
+    }
+
+    /// A place of this tag that passes the test `eq`.
+    ///
+    /// The search goes outwards from the tag's first place, up and then down, and stops where the
+    /// tag's run ends. With well spread tags it passes about as many pairs of other tags as the
+    /// square root of `len`, without a call of `eq`.
+    pub fn find<F: Fn(usize) -> bool>(&self, tag: u16, eq: F) -> Option<usize>
+        requires { (place : ℕ) → Contains self.now.pairs (tag, place) → F.pre eq place }
+
+        // A place of the tag that passes. There is none exactly where each place of the tag fails.
+        ensures found { MatchOption result ((place : ℕ) → Contains self.now.pairs (tag, place) → F.post eq place false) (λ place. Contains self.now.pairs (tag, place) × F.post eq place true) }
+
+        // A pair of the tag at the first place is the answer, unless it fails.
+        ensures first { (place : ℕ) → first_place tag (length self.now.pairs) < length self.now.pairs → ((d : ℕ × ℕ) → slice_index_or self.now.pairs (first_place tag (length self.now.pairs)) d ≡ (tag, place)) → (result ≡ Some place) ⊎ F.post eq place false }
+    {
+        let start = first_place(tag, self.pairs.len());
+        match self.find_from(start, tag, &eq) {
+            Some(place) => Some(place),
+            None => self.find_before(start, tag, &eq),
+        }
+    }
+
+    // A place of the tag that passes, among the pairs from `start` on, the nearest first.
+    fn find_from<F: Fn(usize) -> bool>(&self, start: usize, tag: u16, eq: &F) -> Option<usize>
+        requires { (place : ℕ) → Contains self.now.pairs (tag, place) → F.pre eq.now place }
+        ensures found { MatchOption result ((k place : ℕ) (d : ℕ × ℕ) → start ≤ k → k < length self.now.pairs → slice_index_or self.now.pairs k d ≡ (tag, place) → F.post eq.now place false) (λ place. Contains self.now.pairs (tag, place) × F.post eq.now place true) }
+        ensures first { (place : ℕ) → start < length self.now.pairs → ((d : ℕ × ℕ) → slice_index_or self.now.pairs start d ≡ (tag, place)) → (result ≡ Some place) ⊎ F.post eq.now place false }
+    {
+        let mut at = start;
+        'onward: while at < self.pairs.len() && self.pairs[at].0 <= tag {
+            let (found, place) = self.pairs[at];
+            if found == tag && eq(place) {
+                return Some(place);
+            }
+            at += 1;
+        }
+        None
+    }
+
+    // A place of the tag that passes, among the pairs before `start`, the nearest first.
+    fn find_before<F: Fn(usize) -> bool>(&self, start: usize, tag: u16, eq: &F) -> Option<usize>
+        requires test { (place : ℕ) → Contains self.now.pairs (tag, place) → F.pre eq.now place }
+        requires in_range { start ≤ length self.now.pairs }
+        ensures { MatchOption result ((k place : ℕ) (d : ℕ × ℕ) → k < start → slice_index_or self.now.pairs k d ≡ (tag, place) → F.post eq.now place false) (λ place. Contains self.now.pairs (tag, place) × F.post eq.now place true) }
+    {
+        let mut at = start;
+        'back: while at > 0 && self.pairs[at - 1].0 >= tag {
+            at -= 1;
+            let (found, place) = self.pairs[at];
+            if found == tag && eq(place) {
+                return Some(place);
+            }
+        }
+        None
+    }
+
+    /// Makes room for one more pair.
+    pub fn reserve(&mut self) -> Result<(), AllocError>
+        ensures pairs { self.new.pairs ≡ self.old.pairs }
+        ensures room { OnOk result (1 ≤ self.new.spare) }
+        ensures kept { self.old.spare ≤ self.new.spare }
+        ensures succeeds { 1 ≤ self.old.spare → IsOk result }
+    {
+        self.reserve_many(1)
+    }
+
+    /// Makes room for `count` more pairs.
+    pub fn reserve_many(&mut self, count: usize) -> Result<(), AllocError>
+        ensures pairs { self.new.pairs ≡ self.old.pairs }
+        ensures room { OnOk result (count ≤ self.new.spare) }
+        ensures kept { self.old.spare ≤ self.new.spare }
+        ensures succeeds { count ≤ self.old.spare → IsOk result }
+    {
+        self.pairs.reserve(count)
+    }
+
+    /// Adds a pair, at the cost of a move of all that stand behind it.
+    pub fn add(&mut self, tag: u16, place: usize)
+        requires { 1 ≤ self.old.spare }
+        ensures pairs { IsPermutation ((tag, place) ∷ self.old.pairs) self.new.pairs }
+        ensures spare { self.old.spare ≤ self.new.spare + 1 }
+    {
+        let at = self.start_of(tag);
+        let _ = self.pairs.insert(at, (tag, place));
+    }
+
+    /// Takes a pair out, at the cost of a move of all that stand behind it.
+    pub fn remove(&mut self, tag: u16, place: usize)
+        requires { Contains self.old.pairs (tag, place) }
+        ensures pairs { IsPermutation self.old.pairs ((tag, place) ∷ self.new.pairs) }
+        ensures spare { self.new.spare ≡ self.old.spare + 1 }
+    {
+        let at = self.index_of(tag, place);
+        self.pairs.remove(at);
+    }
+
+    /// Gives the pair of a tag and the place `before` the place `after`. No other pair moves.
+    pub fn moved(&mut self, tag: u16, before: usize, after: usize)
+        requires { Contains self.old.pairs (tag, before) }
+
+        // With the other of the two pairs, both lists have the same pairs.
+        ensures pairs { IsPermutation ((tag, after) ∷ self.old.pairs) ((tag, before) ∷ self.new.pairs) }
+        ensures spare { self.new.spare ≡ self.old.spare }
+    {
+        let at = self.index_of(tag, before);
+        self.pairs[at] = (tag, after);
+    }
+
+    /// Takes all pairs out, and keeps their memory as room.
+    pub fn clear(&mut self)
+        ensures pairs { self.new.pairs ≡ [] }
+        ensures spare { self.new.spare ≡ self.old.spare + length self.old.pairs }
+    {
+        self.pairs.clear();
+    }
+
+    /// Takes out the pairs whose place isn't below `count`, and keeps their memory as room.
+    pub fn truncate(&mut self, count: usize)
+        ensures pairs { self.new.pairs ≡ places_below count self.old.pairs }
+        ensures spare { self.new.spare + length self.new.pairs ≡ self.old.spare + length self.old.pairs }
+        ensures kept { self.old.spare ≤ self.new.spare }
+    {
+        self.pairs.retain(|pair| pair.1 < count);
+    }
+
+    // Where the pairs begin whose tag isn't below this one, sought from the tag's first place.
+    fn start_of(&self, tag: u16) -> usize
+        ensures { IsCut self.now.pairs tag result }
+    {
+        let count = self.pairs.len();
+        let mut at = first_place(tag, count);
+        'up: while at < count && self.pairs[at].0 < tag {
+            at += 1;
+        }
+        'down: while at > 0 && self.pairs[at - 1].0 >= tag {
+            at -= 1;
+        }
+        at
+    }
+
+    // Where a pair stands in the list.
+    fn index_of(&self, tag: u16, place: usize) -> usize
+        requires { Contains self.now.pairs (tag, place) }
+        ensures in_range { result < length self.now.pairs }
+        ensures pair { (d : ℕ × ℕ) → slice_index_or self.now.pairs result d ≡ (tag, place) }
+    {
+        let mut at = self.start_of(tag);
+        'seek: while self.pairs[at].1 != place {
+            at += 1;
+        }
+        at
+    }
+}
+
+#[cfg(test)]
+mod tests {
+    use super::*;
+    use std::test::Fail;
+
+    // The tag is that of the key `a` under salt 0. Among four pairs it is sought at the third.
+    #[test]
+    fn lookup_begins_at_the_first_place(rt: HostRuntime) -> Result<(), Fail> {
+        let mut tags = Tags::new(rt.alloc());
+        tags.reserve_many(3)?;
+        tags.add(44_899, 10);
+        tags.add(44_899, 11);
+        tags.add(44_899, 12);
+        tags.reserve()?;
+        tags.add(44_899, 13);
+        assert_eq!(rt; tags.len(), 4);
+        assert_eq!(rt; first_place(44_899, 4), 2);
+        let third = tags.pairs.get(2).map(|pair| pair.1);
+        assert_eq!(rt; tags.find(44_899, |_| true), third);
+        assert_eq!(rt; tags.find(44_899, |place| place == 10), Some(10));
+        assert_eq!(rt; tags.find(44_898, |_| true), None);
+        Ok(())
+    }
+}
