@@ -1,0 +1,112 @@
+-- The changes of a leaf.
+use Rattle.std.proofs.Common.{◌≡◌, ℕ, zero, suc, ◌-◌, ◌<◌, ◌≤◌, List, [], ◌∷◌, ◌++◌, Bool, true, false, Some, None, Option, refl, sym, ap, ◌∙◌, subst, length, get_or, set, arith, inl, inr, min, cond, not, ◌⊎◌, IsSome, is_some, true≢false}
+use Rattle.std.specs.List.{AllByRecursion, Contains, swap_remove}
+use Rattle.std.specs.List.Sorted.{IsPermutation}
+use Rattle.key_bytes.specs.Order.{is_below, is_same}
+use Rattle.leaf_store.specs.Tag.{tag_of}
+use Rattle.map_model.specs.Maps.{Pairs, IsMap, find, with, without, sorted}
+use Rattle.key_bytes.proofs.Orders.{same_is}
+use Rattle.map_model.proofs.Finds.{find_sorted, find_without, same_map, ascending_keep}
+use Rattle.leaf_store.specs.Leaf.{LeafMap}
+use Rattle.leaf_store.specs.Rows.{AreTags, AreOnce, IsLeaf}
+use Rattle.leaf_store.proofs.Unsorted.{find_at, once_set, sorted_set, once_added, sorted_added, once_swap_remove, sorted_swap_remove}
+use Rattle.leaf_store.proofs.Tagged.{tag_row, none_tagged, tags_added, tags_set}
+
+pub min_left : (a b : ℕ) → 1 ≤ min a b → 1 ≤ a
+min_left a b h = omega arith
+
+pub min_right : (a b : ℕ) → 1 ≤ min a b → 1 ≤ b
+min_right a b h = omega arith
+
+module _ {V : Type 0} where
+  -- where the key is absent, there is room
+  pub roomy : (m n : LeafMap V) → m ≡ n → (key : List ℕ) → (1 ≤ n.spare) ⊎ IsSome (find n.map key) → find n.map key ≡ None → 1 ≤ m.spare
+  roomy m n e key room gone = elim room [
+    | inl h ↦ subst (λ (s : LeafMap V). 1 ≤ s.spare) (sym e) h
+    | inr some ↦ absurd (true≢false (sym some ∙ ap is_some gone))
+  ]
+
+  all_set : (a : List ℕ) (rows : Pairs V) (i : ℕ) (y d : List ℕ × V) → i < length rows → (get_or rows i d).0 ≡ y.0 → AllByRecursion (λ (p : List ℕ × V). is_below a p.0 ≡ true) rows → AllByRecursion (λ (p : List ℕ × V). is_below a p.0 ≡ true) (set rows i y)
+  all_set a [] i y d lt e all = absurd (omega arith)
+  all_set a (x ∷ rows) zero y d lt e all = (subst (λ k. is_below a k ≡ true) e all.0, all.1)
+  all_set a (x ∷ rows) (suc i) y d lt e all = (all.0, all_set a rows i y d (omega arith) e all.1)
+
+  ascending_set : (rows : Pairs V) (i : ℕ) (y d : List ℕ × V) → i < length rows → (get_or rows i d).0 ≡ y.0 → IsMap rows → IsMap (set rows i y)
+  ascending_set [] i y d lt e up = absurd (omega arith)
+  ascending_set (x ∷ rows) zero y d lt e up = (subst (λ k. AllByRecursion (λ (p : List ℕ × V). is_below k p.0 ≡ true) rows) e up.0, up.1)
+  ascending_set (x ∷ rows) (suc i) y d lt e up = (all_set x.0 rows i y d (omega arith) e up.0, ascending_set rows i y d (omega arith) e up.1)
+
+  pub seen_find : (m n : LeafMap V) → m ≡ n → (key : List ℕ) (o : Option V) → find m.map key ≡ o → find n.map key ≡ o
+  seen_find m n e key o f = subst (λ (s : LeafMap V). find s.map key ≡ o) e f
+
+  pub seen_with : (m n : LeafMap V) → m ≡ n → (p : Pairs V) (key : List ℕ) (v : V) → p ≡ with m.map key v → p ≡ with n.map key v
+  seen_with m n e p key v f = subst (λ (s : LeafMap V). p ≡ with s.map key v) e f
+
+  pub seen_gone : (m n : LeafMap V) → m ≡ n → (key : List ℕ) → find m.map key ≡ None → IsMap m.map → n.map ≡ without n.map key
+  seen_gone m n e key gone up = subst (λ (s : LeafMap V). s.map ≡ without s.map key) e (same_map m.map (without m.map key) up (ascending_keep (λ k. not (is_same k key)) m.map up) (λ j.
+      elim (is_same key j) as (λ t. is_same key j ≡ t → find m.map j ≡ cond t None (find m.map j)) [
+        | true ↦ λ q. subst (λ k. find m.map k ≡ None) (same_is key j q) gone
+        | false ↦ λ q. refl
+      ] refl ∙ sym (find_without m.map key j)))
+
+  pub seen_without : (m n : LeafMap V) → m ≡ n → (p : Pairs V) (key : List ℕ) → p ≡ without m.map key → p ≡ without n.map key
+  seen_without m n e p key f = subst (λ (s : LeafMap V). p ≡ without s.map key) e f
+
+module _ {V : Type 0} where
+  -- the tag of a key is that of the row that has it
+  pub taken_tag : (salt : ℕ) (rows : Pairs V) (place : ℕ) (key : List ℕ) (tag : ℕ) → tag ≡ tag_of salt key → ((d : List ℕ × V) → is_same (get_or rows place d).0 key ≡ true) → (d : List ℕ × V) → tag ≡ tag_of salt (get_or rows place d).0
+  taken_tag salt rows place key tag e is d = e ∙ ap (tag_of salt) (sym (same_is (get_or rows place d).0 key (is d)))
+
+module _ {V : Type 0} (salt : ℕ) (rows : Pairs V) (pairs : List (ℕ × ℕ)) (ordered : Bool) (leaf : IsLeaf salt rows pairs ordered) where
+  -- a tag leads to a row
+  pub tagged : (tag place : ℕ) → Contains pairs (tag, place) → place < length rows
+  tagged tag place has = tag_row salt rows pairs leaf.tags tag place has
+
+  -- where no row of its tag has the key, no row has it
+  pub untagged : (tag : ℕ) (key : List ℕ) → tag ≡ tag_of salt key → ((place : ℕ) (d : List ℕ × V) → Contains pairs (tag, place) → is_same (get_or rows place d).0 key ≡ false) → find rows key ≡ None
+  untagged tag key e each = none_tagged salt rows pairs leaf.tags key (λ place d has. each place d (subst (λ t. Contains pairs (t, place)) (sym e) has))
+
+  module _ (i : ℕ) (x : List ℕ × V) (key : List ℕ) (lt : i < length rows) (read : x ≡ get_or rows i x) (is : (d : List ℕ × V) → is_same (get_or rows i d).0 key ≡ true) where
+    pub has_key : x.0 ≡ key
+    has_key = ap (λ (p : List ℕ × V). p.0) read ∙ same_is (get_or rows i x).0 key (is x)
+
+    pub found : find (sorted rows) key ≡ Some x.1
+    found =
+        let h : find rows (get_or rows i x).0 ≡ Some (get_or rows i x).1 = find_at rows i x leaf.keys lt in
+        find_sorted rows key ∙ (ap (find rows) (sym has_key) ∙ subst (λ (p : List ℕ × V). find rows p.0 ≡ Some p.1) (sym read) h)
+
+    pub written_leaf : (v : V) → IsLeaf salt (set rows i (x.0, v)) pairs ordered
+    written_leaf v = record {
+      keys = once_set rows i x leaf.keys lt read v;
+      tags = tags_set salt rows pairs leaf.tags i (x.0, v) x lt (sym (ap (λ (p : List ℕ × V). p.0) read));
+      order = λ t. ascending_set rows i (x.0, v) x lt (sym (ap (λ (p : List ℕ × V). p.0) read)) (leaf.order t);
+    }
+
+    pub written_map : (v : V) → sorted (set rows i (x.0, v)) ≡ with (sorted rows) key v
+    written_map v = sorted_set rows i x leaf.keys lt read v ∙ ap (λ k. with (sorted rows) k v) has_key
+
+    -- the last row goes to the place of the one that is taken out
+    last : List ℕ × V
+    last = get_or rows (length rows - 1) x
+
+    pub taken_map : sorted (swap_remove rows i x) ≡ without (sorted rows) key
+    taken_map = sorted_swap_remove rows i x leaf.keys lt read ∙ ap (without (sorted rows)) has_key
+
+    pub taken_keys : AreOnce (swap_remove rows i x)
+    taken_keys = once_swap_remove rows i x leaf.keys lt read
+
+    pub taken_leaf : (more : List (ℕ × ℕ)) → AreTags salt (swap_remove rows i x) more → IsLeaf salt (swap_remove rows i x) more false
+    taken_leaf more tags = record { keys = taken_keys; tags = tags; order = λ t. absurd (cc (t)) }
+
+  pub absent : (key : List ℕ) → find rows key ≡ None → find (sorted rows) key ≡ None
+  absent key gone = find_sorted rows key ∙ gone
+
+  pub added_leaf : (key : List ℕ) (v : V) (more : List (ℕ × ℕ)) → find rows key ≡ None → IsPermutation ((tag_of salt key, length rows) ∷ pairs) more → IsLeaf salt (rows ++ (key, v) ∷ []) more false
+  added_leaf key v more gone p = record {
+    keys = once_added rows key v leaf.keys gone;
+    tags = tags_added salt rows pairs leaf.tags (key, v) more p;
+    order = λ t. absurd (cc (t));
+  }
+
+  pub added_map : (key : List ℕ) (v : V) → find rows key ≡ None → sorted (rows ++ (key, v) ∷ []) ≡ with (sorted rows) key v
+  added_map key v gone = sorted_added rows key v leaf.keys gone

@@ -1,0 +1,11 @@
+pub mod Unsorted
+pub mod Places
+pub mod Tagged
+pub mod Changes
+pub mod Ascends
+pub mod Taken
+pub mod Settled
+pub mod Cuts
+pub mod Halves
+pub mod Joined
+pub mod Listed

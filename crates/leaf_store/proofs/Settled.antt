@@ -1,0 +1,64 @@
+-- Rows that were sorted, and their tags.
+use Rattle.std.proofs.Common.{◌≡◌, ℕ, ◌+◌, ◌<◌, List, [], ◌∷◌, Bool, true, sym, ap, ◌∙◌, subst, length, get_or, take, arith, IsTrue, length-take}
+use Rattle.std.specs.List.{Contains, remove}
+use Rattle.std.specs.List.Sorted.{IsPermutation}
+use Rattle.std.proofs.lemmas.List.{take_more}
+use Rattle.std.proofs.lemmas.List.Sorted.{IsPermutation-refl, IsPermutation-cons, IsPermutation-trans, IsPermutation-sym, IsPermutation-remove, length_permutation}
+use Rattle.leaf_store.specs.Tag.{tag_of}
+use Rattle.map_model.specs.Maps.{Pairs, IsMap, sorted}
+use Rattle.leaf_store.specs.Leaf.{LeafMap}
+use Rattle.leaf_store.specs.Rows.{bit, is_pair, times, places, AreTags, IsLeaf}
+use Rattle.leaf_store.proofs.Unsorted.{total_permutation, once_permutation, sorted_ascending}
+use Rattle.leaf_store.proofs.Places.{times_contains, pair_itself, length-places}
+use Rattle.leaf_store.proofs.Tagged.{tags_added}
+
+-- lists with the same counts have the same elements
+pub counted : (xs ys : List (ℕ × ℕ)) → ((q : ℕ × ℕ) → times q xs ≡ times q ys) → IsPermutation xs ys
+counted [] [] h = IsPermutation-refl []
+counted [] (y ∷ ys) h = let e = h y in let b = ap bit (pair_itself y) in absurd (omega arith)
+counted (x ∷ xs) ys h =
+    let e = h x in
+    let b = ap bit (pair_itself x) in
+    let has : Contains ys x = times_contains x ys (omega arith) in
+    let rest = remove ys has.0 in
+    let p : IsPermutation ys (x ∷ rest) = IsPermutation-remove ys has.0 x has.1 (sym has.2) in
+    let same : (q : ℕ × ℕ) → times q xs ≡ times q rest = λ q. (let f = h q in let g = total_permutation (λ (z : ℕ × ℕ). bit (is_pair q z)) ys (x ∷ rest) p in omega arith) in
+    IsPermutation-trans (x ∷ xs) (x ∷ rest) ys (IsPermutation-cons x xs rest (counted xs rest same)) (IsPermutation-sym ys (x ∷ rest) p)
+
+module _ {V : Type 0} where
+  -- one tag a row
+  pub length-tags : (salt : ℕ) (rows : Pairs V) (pairs : List (ℕ × ℕ)) → AreTags salt rows pairs → length pairs ≡ length rows
+  length-tags salt rows pairs tags = sym (length_permutation pairs (places salt 0 rows) (counted pairs (places salt 0 rows) tags)) ∙ length-places salt 0 rows
+
+  pub retagged : (salt : ℕ) (rows : Pairs V) (i : ℕ) (x : List ℕ × V) (tag : ℕ) (pairs more : List (ℕ × ℕ)) → i < length rows → tag ≡ tag_of salt (get_or rows i x).0 → AreTags salt (take i rows) pairs → IsPermutation ((tag, i) ∷ pairs) more → AreTags salt (take (i + 1) rows) more
+  retagged salt rows i x tag pairs more lt e tags p =
+      let size : length (take i rows) ≡ i = omega (arith, length-take i rows) in
+      let q : IsPermutation ((tag_of salt (get_or rows i x).0, length (take i rows)) ∷ pairs) more = subst (λ n. IsPermutation ((tag_of salt (get_or rows i x).0, n) ∷ pairs) more) (sym size) (subst (λ t. IsPermutation ((t, i) ∷ pairs) more) e p) in
+      subst (λ rs. AreTags salt rs more) (sym (take_more rows i x lt)) (tags_added salt (take i rows) pairs tags (get_or rows i x) more q)
+
+  pub settled_leaf : (salt : ℕ) (rows : Pairs V) (pairs : List (ℕ × ℕ)) (ordered : Bool) → IsLeaf salt rows pairs ordered → (new : Pairs V) (more : List (ℕ × ℕ)) → IsPermutation rows new → IsMap new → AreTags salt new more → IsLeaf salt new more true
+  settled_leaf salt rows pairs ordered leaf new more p up tags = record { keys = once_permutation rows new p leaf.keys; tags = tags; order = λ _. up }
+
+  pub seen_map : (m n : LeafMap V) → m ≡ n → (p : Pairs V) → p ≡ m.map → p ≡ n.map
+  seen_map m n e p f = subst (λ (s : LeafMap V). p ≡ s.map) e f
+
+  pub seen_at : (m n : LeafMap V) → m ≡ n → (i : ℕ) (d x : List ℕ × V) → get_or m.map i d ≡ x → get_or n.map i d ≡ x
+  seen_at m n e i d x f = subst (λ (s : LeafMap V). get_or s.map i d ≡ x) e f
+
+  pub seen_room : (m n : LeafMap V) → m ≡ n → (i : ℕ) → i < length n.map → i < length m.map
+  seen_room m n e i h = subst (λ (s : LeafMap V). i < length s.map) (sym e) h
+
+  pub seen_ordered : (m n : LeafMap V) → m ≡ n → IsTrue n.is_ordered → IsTrue m.is_ordered
+  seen_ordered m n e h = subst (λ (s : LeafMap V). IsTrue s.is_ordered) (sym e) h
+
+  pub seen_spare : (m n : LeafMap V) → m ≡ n → m.spare ≡ n.spare
+  seen_spare m n e = ap (λ (s : LeafMap V). s.spare) e
+
+  pub seen_pairs : (m n : LeafMap V) → m ≡ n → m.map ≡ n.map
+  seen_pairs m n e = ap (λ (s : LeafMap V). s.map) e
+
+  -- rows that are in order are the map
+  pub settled_rows : (m n : LeafMap V) → m ≡ n → (rows : Pairs V) → sorted rows ≡ m.map → (IsTrue m.is_ordered → IsMap rows) → IsTrue n.is_ordered → (p : Pairs V) → n.map ≡ p → (rows ≡ p) × IsMap rows
+  settled_rows m n e rows same order ordered p is =
+      let up = order (seen_ordered m n e ordered) in
+      (sym (sorted_ascending rows up) ∙ (same ∙ (seen_pairs m n e ∙ is)), up)

@@ -1,0 +1,31 @@
+use Rattle.std.proofs.Common.{arith, ◌∙◌, ◌++◌, ap, subst, length}
+use Rattle.map_model.specs.Maps.{sorted}
+use Rattle.leaf_store.specs.Rows.{AreTags}
+use Rattle.leaf_store.proofs.Unsorted.{length-sorted}
+use Rattle.leaf_store.proofs.Joined.{still_apart, joined_map, joined_leaf}
+use Rattle.leaf_store.proofs.Settled.{seen_pairs}
+use Rattle.leaf_store.proofs.leaf.Leaf.absorb.Goals as goal
+
+pub returns-in_err-reserve-clause-succeeds : goal.returns-in_err-reserve-clause-succeeds
+returns-in_err-reserve-clause-succeeds g c = λ room.
+    let e = length-sorted c.right.inside.rows.items c.right.invariant.keys in
+    let v = ap length (seen_pairs _ _ c.right.view_is) in
+    absurd (cc (c.in_err-reserve.ensures.succeeds (omega (arith, e, v, room, c.len.ensures))))
+
+pub invariant_of-self-2 : goal.invariant_of-self-2
+invariant_of-self-2 g c =
+    let left = c.self.inside.rows.items in
+    let right = c.right.inside.rows.items in
+    let apart = still_apart (sorted left) (sorted right) c.args.self.now.map c.args.right.now.map (seen_pairs _ _ c.self.view_is ∙ seen_pairs _ _ c.in_ok-reserve.ensures.stays) (seen_pairs _ _ c.right.view_is) c.requires in
+    let tags = subst (λ rows. AreTags c.self.inside.salt rows c.add_tags.new.tags.pairs) (c.deref.ensures.value ∙ c.in_ok-append.ensures.items) c.add_tags.ensures.tags in
+    rw c.in_ok-append.ensures.items (joined_leaf left right c.self.invariant.keys c.right.invariant.keys apart c.self.inside.salt c.add_tags.new.tags.pairs tags)
+
+pub returns-clause-joined : goal.returns-clause-joined
+returns-clause-joined g c =
+    let left = c.self.inside.rows.items in
+    let right = c.right.inside.rows.items in
+    let left_is = seen_pairs _ _ c.self.view_is ∙ seen_pairs _ _ c.in_ok-reserve.ensures.stays in
+    let right_is = seen_pairs _ _ c.right.view_is in
+    let apart = still_apart (sorted left) (sorted right) c.args.self.now.map c.args.right.now.map left_is right_is c.requires in
+    ap sorted c.in_ok-append.ensures.items ∙ (joined_map left right c.self.invariant.keys c.right.invariant.keys apart
+    ∙ (ap (λ t. sorted (t ++ sorted right)) left_is ∙ ap (λ t. sorted (c.args.self.now.map ++ t)) right_is))

@@ -1,0 +1,60 @@
+use Rattle.std.proofs.Common.{arith, ◌≡◌, ◌∙◌, ◌+◌, ◌-◌, ◌/◌, refl, ap, subst, length, take, drop, length-take, length-drop}
+use Rattle.map_model.specs.Maps.{sorted}
+use Rattle.leaf_store.specs.Rows.{AreTags}
+use Rattle.leaf_store.proofs.Unsorted.{sorted_nothing, sorted_ascending}
+use Rattle.leaf_store.proofs.Halves.{left_leaf, right_leaf, left_map, right_map}
+use Rattle.leaf_store.proofs.Settled.{settled_rows, seen_pairs, seen_spare}
+use Rattle.leaf_store.proofs.leaf.Leaf.split_off.Goals as goal
+
+pub move_tail-requires-clause-empty : goal.move_tail-requires-clause-empty
+move_tail-requires-clause-empty g c = sorted_nothing c.right.inside.rows.items c.right.invariant.keys (seen_pairs _ _ c.right.view_is ∙ c.requires.empty)
+
+pub move_tail-requires-clause-room : goal.move_tail-requires-clause-room
+move_tail-requires-clause-room g c =
+    let s = settled_rows _ _ c.self.view_is c.self.inside.rows.items refl c.self.invariant.order c.put_in_order.ensures.ordered _ c.put_in_order.ensures.map in
+    let size = ap length s.0 in
+    let spare = seen_spare _ _ c.right.view_is in
+    let room = c.requires.room in
+    omega (arith, size, spare, room, c.len.ensures, c.len-2.ensures)
+
+pub retag-requires : goal.retag-requires
+retag-requires g c =
+    let s = settled_rows _ _ c.self.view_is c.self.inside.rows.items refl c.self.invariant.order c.put_in_order.ensures.ordered _ c.put_in_order.ensures.map in
+    let size = ap length s.0 in
+    let spare = seen_spare _ _ c.right.view_is in
+    let room = c.requires.room in
+    let go = ap length (c.deref.ensures.value ∙ c.move_tail.ensures.go) ∙ length-drop (c.len.result - c.len-2.result / 2) c.self.inside.rows.items in
+    omega (arith, size, spare, room, go, c.len.ensures, c.len-2.ensures)
+
+pub invariant_of-self : goal.invariant_of-self
+invariant_of-self g c =
+    let s = settled_rows _ _ c.self.view_is c.self.inside.rows.items refl c.self.invariant.order c.put_in_order.ensures.ordered _ c.put_in_order.ensures.map in
+    rw (c.move_tail.ensures.stay, c.truncate.ensures.pairs) (left_leaf c.self.inside.rows.items s.1 (c.len.result - c.len-2.result / 2) c.self.inside.salt c.self.inside.tags.pairs c.self.inside.ordered c.self.invariant)
+
+pub invariant_of-right : goal.invariant_of-right
+invariant_of-right g c =
+    let s = settled_rows _ _ c.self.view_is c.self.inside.rows.items refl c.self.invariant.order c.put_in_order.ensures.ordered _ c.put_in_order.ensures.map in
+    let tags = subst (λ rows. AreTags c.right.inside.salt rows c.retag.new.tags.pairs) (c.deref.ensures.value ∙ c.move_tail.ensures.go) c.retag.ensures.tags in
+    rw c.move_tail.ensures.go (right_leaf c.self.inside.rows.items s.1 (c.len.result - c.len-2.result / 2) c.self.invariant.keys c.right.inside.salt c.retag.new.tags.pairs tags)
+
+pub returns-clause-stay : goal.returns-clause-stay
+returns-clause-stay g c =
+    let s = settled_rows _ _ c.self.view_is c.self.inside.rows.items refl c.self.invariant.order c.put_in_order.ensures.ordered _ c.put_in_order.ensures.map in
+    let size = ap length s.0 in
+    let half : c.len.result - c.len-2.result / 2 ≡ (length c.args.self.now.map + 1) / 2 = omega (arith, size, c.len.ensures, c.len-2.ensures) in
+    ap sorted c.move_tail.ensures.stay ∙ (left_map c.self.inside.rows.items s.1 (c.len.result - c.len-2.result / 2)
+    ∙ (ap (take (c.len.result - c.len-2.result / 2)) (sorted_ascending c.self.inside.rows.items s.1 ∙ s.0) ∙ ap (λ n. take n c.args.self.now.map) half))
+
+pub returns-clause-go : goal.returns-clause-go
+returns-clause-go g c =
+    let s = settled_rows _ _ c.self.view_is c.self.inside.rows.items refl c.self.invariant.order c.put_in_order.ensures.ordered _ c.put_in_order.ensures.map in
+    let size = ap length s.0 in
+    let half : c.len.result - c.len-2.result / 2 ≡ (length c.args.self.now.map + 1) / 2 = omega (arith, size, c.len.ensures, c.len-2.ensures) in
+    ap sorted c.move_tail.ensures.go ∙ (right_map c.self.inside.rows.items s.1 (c.len.result - c.len-2.result / 2)
+    ∙ (ap (drop (c.len.result - c.len-2.result / 2)) (sorted_ascending c.self.inside.rows.items s.1 ∙ s.0) ∙ ap (λ n. drop n c.args.self.now.map) half))
+
+pub returns-clause-spare : goal.returns-clause-spare
+returns-clause-spare g c =
+    let stay = ap length c.move_tail.ensures.stay ∙ length-take (c.len.result - c.len-2.result / 2) c.self.inside.rows.items in
+    let spare = seen_spare _ _ c.self.view_is in
+    omega (arith, stay, spare, c.put_in_order.ensures.spare, c.move_tail.ensures.from_capacity, c.truncate.ensures.kept)

@@ -1,0 +1,8 @@
+use Rattle.leaf_store.proofs.Listed.{tags_listed, places_listed, seen_tags, seen_places}
+use Rattle.leaf_store.proofs.leaf.Leaf.tags.Goals as goal
+
+pub returns-clause-tags : goal.returns-clause-tags
+returns-clause-tags g c = seen_tags _ _ c.self.view_is _ (tags_listed c.self.inside.salt c.self.inside.rows.items c.self.inside.tags.pairs c.self.invariant.keys c.self.invariant.tags)
+
+pub returns-clause-places : goal.returns-clause-places
+returns-clause-places g c = seen_places _ _ c.self.view_is _ (places_listed c.self.inside.salt c.self.inside.rows.items c.self.inside.tags.pairs c.self.invariant.keys c.self.invariant.tags)

@@ -1,0 +1,3 @@
+pub mod Leaf
+pub mod Tag
+pub mod Rows

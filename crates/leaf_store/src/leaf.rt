@@ -1,0 +1,251 @@
+//! A leaf.
+ghost use Rattle.std.specs.Prelude.{◌≡◌, ℕ, ◌+◌, ◌-◌, ◌/◌, ◌<◌, ◌≤◌, ◌⊎◌, List, [], ◌++◌, length, take, drop, map, slice_index_or, MatchOption, IsSome, IsNone, IsOk, IsTrue, IfOk, OnOk, OnErr, None, Some};
+ghost use Rattle.std.specs.List.{range_with_len};
+ghost use Rattle.std.specs.List.Sorted.{IsPermutation};
+ghost use Rattle.key_bytes.specs.declared.bound.Bound.TheVariants.{Low};
+ghost use Rattle.map_model.specs.Maps.{IsMap, find, with, without, between, sorted};
+ghost use Rattle.leaf_store.specs.Tag.{tag_of};
+
+use crate::order::{count_under, move_tail, sort_rows};
+use crate::rows::{add_tags, place_of, retag, tag_of, take_tag};
+use key_bytes::{Bound, Key};
+use leaf_tags::Tags;
+use std::alloc::{AllocError, Global};
+use std::marker::Model;
+use std::mem;
+
+/// A map from keys to values of any type.
+///
+/// Its rows stand in any order in one block of memory, and are found by the tags of their keys. A
+/// call that finds one key compares mostly one key or none. No call copies a key or a value.
+#[derive(Drop)]
+pub struct Leaf<V> {
+    rows: Vec<(Key, V)>,
+    tags: Tags,
+    salt: u64,
+    ordered: bool,
+}
+
+impl<V> Model for Leaf<V> {
+    ghost use Rattle.std.specs.Prelude.{ℕ, ◌-◌, length, vec_capacity, min};
+    ghost use Rattle.map_model.specs.Maps.{sorted};
+    ghost use Rattle.leaf_store.specs.Leaf.{LeafMap};
+    ghost use Rattle.leaf_store.specs.Rows.{IsLeaf};
+
+    ghost Value = { LeafMap V };
+
+    ghost view = { λ l. record { map = sorted l.rows.items; spare = min (vec_capacity l.rows - length l.rows.items) l.tags.spare; salt = l.salt; is_ordered = l.ordered } };
+
+    ghost invariant = { λ l. IsLeaf l.salt l.rows.items l.tags.pairs l.ordered };
+}
+
+impl<V> Leaf<V> {
+    /// A leaf with no keys, whose tags are hashed with this salt. It takes no memory until room is
+    /// reserved.
+    pub fn new(alloc: Global, salt: u64) -> Leaf<V>
+        ensures map { result.map ≡ [] }
+        ensures salt { result.salt ≡ salt }
+    {
+        Leaf {
+            rows: Vec::new(alloc),
+            tags: Tags::new(alloc),
+            salt,
+            ordered: true,
+        }
+    }
+
+    /// The number of keys.
+    pub fn len(&self) -> usize
+        ensures len { result ≡ length self.now.map }
+        ensures ascending { IsMap self.now.map }
+    {
+        self.rows.len()
+    }
+
+    /// The tags of the keys, each with the place of its key's row.
+    pub fn tags(&self) -> &Tags
+        // Each tag stands there as often as keys have it, and each place below `len` once.
+        ensures tags { IsPermutation (map (λ p. tag_of self.now.salt p.0) self.now.map) (map (λ p. p.0) result.now.pairs) }
+        ensures places { IsPermutation (range_with_len 0 (length self.now.map)) (map (λ p. p.1) result.now.pairs) }
+    {
+        &self.tags
+    }
+
+    /// The value of a key.
+    pub fn find(&self, key: &Key) -> Option<&V>
+        ensures { MatchOption result (find self.now.map key.now ≡ None) (λ value. find self.now.map key.now ≡ Some value.now) }
+    {
+        match place_of(&self.rows, &self.tags, tag_of(self.salt, key), key) {
+            Some(place) => Some(&self.rows[place].1),
+            None => None,
+        }
+    }
+
+    /// Makes room for `count` more keys.
+    pub fn reserve(&mut self, count: usize) -> Result<(), AllocError>
+        ensures stays { self.new ≡ record self.old { spare = self.new.spare } }
+        ensures room { OnOk result (count ≤ self.new.spare) }
+        ensures kept { self.old.spare ≤ self.new.spare }
+        ensures succeeds { count ≤ self.old.spare → IsOk result }
+    {
+        self.rows.reserve(count)?;
+        self.tags.reserve_many(count)
+    }
+
+    /// Makes room for one more key.
+    pub fn reserve_one(&mut self) -> Result<(), AllocError>
+        ensures stays { self.new ≡ record self.old { spare = self.new.spare } }
+        ensures room { OnOk result (1 ≤ self.new.spare) }
+        ensures kept { self.old.spare ≤ self.new.spare }
+        ensures succeeds { 1 ≤ self.old.spare → IsOk result }
+    {
+        self.reserve(1)
+    }
+
+    /// Sets the value of a key, and gives back the old one. A key that is new goes to the end of
+    /// the rows; one that was there keeps its row, and the key given is dropped.
+    pub fn insert_reserved(&mut self, key: Key, value: V) -> Option<V>
+        requires { (1 ≤ self.old.spare) ⊎ IsSome (find self.old.map key) }
+        ensures map { self.new.map ≡ with self.old.map key value }
+        ensures old { result ≡ find self.old.map key }
+        ensures salt { self.new.salt ≡ self.old.salt }
+
+        // A new key takes the room of one, and an old one keeps the order.
+        ensures spare { self.old.spare ≤ self.new.spare + 1 }
+        ensures replaced { IsSome result → (self.new.is_ordered ≡ self.old.is_ordered) × (self.new.spare ≡ self.old.spare) }
+    {
+        let tag = tag_of(self.salt, &key);
+        match place_of(&self.rows, &self.tags, tag, &key) {
+            Some(place) => {
+                let row = &mut self.rows[place];
+                Some(mem::replace(&mut row.1, value))
+            }
+            None => {
+                self.ordered = false;
+                self.tags.add(tag, self.rows.len());
+                self.rows.push_reserved((key, value));
+                None
+            }
+        }
+    }
+
+    /// Takes a key out, and gives back its value. The last row moves to its place.
+    pub fn remove(&mut self, key: &Key) -> Option<V>
+        ensures map { self.new.map ≡ without self.old.map key.now }
+        ensures value { result ≡ find self.old.map key.now }
+        ensures salt { self.new.salt ≡ self.old.salt }
+        ensures spare { self.old.spare ≤ self.new.spare }
+        ensures absent { IsNone result → self.new ≡ self.old }
+    {
+        let tag = tag_of(self.salt, key);
+        let place = place_of(&self.rows, &self.tags, tag, key)?;
+        self.ordered = false;
+        take_tag(&mut self.tags, &self.rows, self.salt, tag, place);
+        let (_, value) = self.rows.swap_remove(place);
+        Some(value)
+    }
+
+    /// Puts the rows in order, unless they are, and gives the places in it of the pairs from `from`,
+    /// included, to `upto`, excluded. Where `from` is above `upto` the first place is above the
+    /// second, and there are no such pairs.
+    ///
+    /// The sort takes no memory, so this call never fails today. Rows that are in order cost two
+    /// binary searches.
+    pub fn pairs_between(
+        &mut self,
+        from: &Bound,
+        upto: &Bound,
+    ) -> Result<(usize, usize), AllocError>
+        // The places are the numbers of keys below the two ends.
+        ensures start { IfOk result (λ r. r.0 ≡ length (between self.old.map Low from.now)) }
+        ensures end { IfOk result (λ r. r.1 ≡ length (between self.old.map Low upto.now)) }
+        ensures in_range { IfOk result (λ r. (r.0 ≤ length self.old.map) × (r.1 ≤ length self.old.map)) }
+        ensures pairs { IfOk result (λ r. between self.old.map from.now upto.now ≡ take (r.1 - r.0) (drop r.0 self.old.map)) }
+        ensures answers { IsOk result }
+
+        // The map stays, and a leaf that was in order stays as it is.
+        ensures map { self.new.map ≡ self.old.map }
+        ensures salt { self.new.salt ≡ self.old.salt }
+        ensures spare { self.old.spare ≤ self.new.spare }
+        ensures ordered { OnOk result (IsTrue self.new.is_ordered) }
+        ensures again { IsTrue self.old.is_ordered → self.new ≡ self.old }
+    {
+        self.put_in_order();
+        let start = count_under(&self.rows, from);
+        let end = count_under(&self.rows, upto);
+        Ok((start, end))
+    }
+
+    /// The pair at a place in the order.
+    pub fn at(&self, i: usize) -> (&Key, &V)
+        requires ordered { IsTrue self.now.is_ordered }
+        requires in_range { i < length self.now.map }
+        ensures { (d : List ℕ × V) → slice_index_or self.now.map i d ≡ (result.0.now, result.1.now) }
+    {
+        let row = &self.rows[i];
+        (&row.0, &row.1)
+    }
+
+    /// Cuts the leaf: its lower half stays, the greater one where they differ by a key, and the
+    /// other half goes to `right`. Both are in order afterwards.
+    ///
+    /// The rows move into the room of `right`, so this call never fails today.
+    pub fn split_off(&mut self, right: &mut Leaf<V>) -> Result<(), AllocError>
+        requires empty { right.old.map ≡ [] }
+        requires room { length self.old.map - (length self.old.map + 1) / 2 ≤ right.old.spare }
+        ensures stay { OnOk result (self.new.map ≡ take ((length self.old.map + 1) / 2) self.old.map) }
+        ensures go { OnOk result (right.new.map ≡ drop ((length self.old.map + 1) / 2) self.old.map) }
+        ensures answers { IsOk result }
+
+        ensures refused { OnErr result ((self.new.map ≡ self.old.map) × (right.new.map ≡ right.old.map)) }
+        ensures salts { (self.new.salt ≡ self.old.salt) × (right.new.salt ≡ right.old.salt) }
+        ensures spare { self.old.spare ≤ self.new.spare }
+        ensures ordered { OnOk result (IsTrue self.new.is_ordered × IsTrue right.new.is_ordered) }
+    {
+        self.put_in_order();
+        let stay = self.rows.len() - self.rows.len() / 2;
+        move_tail(&mut self.rows, stay, &mut right.rows);
+        self.tags.truncate(stay);
+        retag(&mut right.tags, &right.rows, right.salt);
+        right.ordered = true;
+        Ok(())
+    }
+
+    /// Takes in all pairs of `right`, which is empty afterwards and keeps its room.
+    pub fn absorb(&mut self, right: &mut Leaf<V>) -> Result<(), AllocError>
+        requires { (key : List ℕ) → (find self.old.map key ≡ None) ⊎ (find right.old.map key ≡ None) }
+        ensures joined { OnOk result (self.new.map ≡ sorted (self.old.map ++ right.old.map)) }
+        ensures emptied { OnOk result (right.new.map ≡ []) }
+        ensures succeeds { length right.old.map ≤ self.old.spare → IsOk result }
+
+        ensures refused { OnErr result ((self.new.map ≡ self.old.map) × (right.new ≡ right.old)) }
+        ensures salts { (self.new.salt ≡ self.old.salt) × (right.new.salt ≡ right.old.salt) }
+        ensures room { right.old.spare ≤ right.new.spare }
+    {
+        self.reserve(right.rows.len())?;
+        let start = self.rows.len();
+        self.rows.append(&mut right.rows)?;
+        right.tags.clear();
+        add_tags(&mut self.tags, &self.rows, self.salt, start);
+        self.ordered = false;
+        Ok(())
+    }
+
+    // Puts the rows in the order of their keys, unless they are.
+    fn put_in_order(&mut self)
+        ensures map { self.new.map ≡ self.old.map }
+        ensures ordered { IsTrue self.new.is_ordered }
+        ensures salt { self.new.salt ≡ self.old.salt }
+        ensures spare { self.old.spare ≤ self.new.spare }
+        ensures again { IsTrue self.old.is_ordered → self.new ≡ self.old }
+    {
+        if !self.ordered {
+            sort_rows(&mut self.rows);
+            retag(&mut self.tags, &self.rows, self.salt);
+            self.ordered = true;
+        }
+    }
+}
+
+#[cfg(test)]
+mod tests;

@@ -1,0 +1,98 @@
+//! Leaves against maps of the standard library.
+use super::*;
+use std::collections::BTreeMap;
+use std::process::Abort;
+use std::test::Fail;
+
+// A key whose order is that of its number.
+fn key_of(alloc: Global, number: u16) -> Result<Key, Fail> {
+    Ok(Key::new(alloc, &number.to_be_bytes())?)
+}
+
+// The leaf has the pairs of the map, by ascending keys.
+fn assert_same<R: Abort>(
+    rt: &R,
+    leaf: &mut Leaf<u32>,
+    map: &BTreeMap<u16, u32>,
+) -> Result<(), Fail> {
+    let (start, end) = leaf.pairs_between(&Bound::Low, &Bound::High)?;
+    assert_eq!(rt; start, 0);
+    assert_eq!(rt; end, map.len());
+    let mut before = 0;
+    for i in start..end {
+        let (key, value) = leaf.at(i);
+        let number = match key.bytes() {
+            [high, low] => u16::from_be_bytes([*high, *low]),
+            _ => 0,
+        };
+        assert!(rt; before < number);
+        assert_eq!(rt; map.get(&number), Some(value));
+        before = number;
+    }
+    Ok(())
+}
+
+#[test]
+fn generated_calls_agree_with_a_map(rt: HostRuntime) -> Result<(), Fail> {
+    let mut leaf = Leaf::new(rt.alloc(), 0);
+    let mut map = BTreeMap::new(rt.alloc());
+    let mut state = 1_u64;
+    for value in 0..2000 {
+        state = state
+            .wrapping_mul(6_364_136_223_846_793_005)
+            .wrapping_add(1_442_695_040_888_963_407);
+        let number = (state >> 58) as u16 + 200;
+        let key = key_of(rt.alloc(), number)?;
+        assert_eq!(rt; leaf.find(&key), map.get(&number));
+        if (state >> 40) % 4 == 0 {
+            assert_eq!(rt; leaf.remove(&key), map.remove(&number));
+        } else {
+            leaf.reserve_one()?;
+            assert_eq!(rt;
+                leaf.insert_reserved(key, value),
+                map.insert(number, value)?
+            );
+        }
+        assert_same(&rt, &mut leaf, &map)?;
+    }
+    Ok(())
+}
+
+// Five keys are cut into three and two, which then move into a leaf of another salt.
+#[test]
+fn halves_move_with_ample_memory(rt: HostRuntime) -> Result<(), Fail> {
+    let mut left = Leaf::new(rt.alloc(), 0);
+    left.reserve(5)?;
+    left.insert_reserved(key_of(rt.alloc(), 4)?, 40);
+    left.insert_reserved(key_of(rt.alloc(), 2)?, 20);
+    left.insert_reserved(key_of(rt.alloc(), 5)?, 50);
+    left.insert_reserved(key_of(rt.alloc(), 1)?, 10);
+    left.insert_reserved(key_of(rt.alloc(), 3)?, 30);
+
+    let mut right = Leaf::new(rt.alloc(), 7);
+    right.reserve(left.len())?;
+    left.split_off(&mut right)?;
+    assert_eq!(rt; left.len(), 3);
+    assert_eq!(rt; right.len(), 2);
+    assert_eq!(rt; left.find(&key_of(rt.alloc(), 3)?), Some(&30));
+    assert_eq!(rt; right.at(0).0.bytes(), [0, 4].as_slice());
+
+    let mut whole = Leaf::new(rt.alloc(), 9);
+    whole.absorb(&mut right)?;
+    assert_eq!(rt; whole.len(), 2);
+    assert_eq!(rt; right.len(), 0);
+    assert_eq!(rt; whole.find(&key_of(rt.alloc(), 5)?), Some(&50));
+    Ok(())
+}
+
+// The first two bytes of FNV-1a of the byte `a`, af63dc4c8601ec8c.
+#[test]
+fn tag_of_the_key_a(rt: HostRuntime) -> Result<(), Fail> {
+    let key = Key::new(rt.alloc(), b"a")?;
+    assert_eq!(rt; tag_of(0, &key), 44_899);
+    let mut leaf = Leaf::new(rt.alloc(), 0);
+    leaf.reserve_one()?;
+    leaf.insert_reserved(key, 1_u32);
+    assert_eq!(rt; leaf.tags().find(44_899, |_| true), Some(0));
+    Ok(())
+}

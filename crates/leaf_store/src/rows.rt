@@ -1,0 +1,78 @@
+//! Rows of keys and values, and the tags by which they are found.
+ghost use Rattle.std.specs.Prelude.{◌≡◌, ℕ, ◌+◌, ◌-◌, ◌<◌, ◌≤◌, List, false, true, length, take, slice_index_or, MatchOption};
+ghost use Rattle.std.specs.List.{Contains, swap_remove};
+ghost use Rattle.key_bytes.specs.Order.{is_same};
+ghost use Rattle.leaf_store.specs.Tag.{tag_of};
+ghost use Rattle.leaf_store.specs.Rows.{AreTags};
+
+use key_bytes::{Key, prefix_hash};
+use leaf_tags::Tags;
+use std::cmp::Ordering;
+
+// A key's tag: the first 16 of the 64 bits of its hash.
+#[tactic(auto, unfolding(crate::specs::Tag::tag_of))]
+pub(crate) fn tag_of(salt: u64, key: &Key) -> u16
+    ensures { result ≡ tag_of salt key.now }
+{
+    (prefix_hash(salt, key.bytes()) >> 48) as u16
+}
+
+// Whether the row at a place has the key.
+fn has_key<V>(rows: &[(Key, V)], place: usize, key: &Key) -> bool
+    requires { place < length rows.now }
+    ensures { (d : List ℕ × V) → result ≡ is_same (slice_index_or rows.now place d).0 key.now }
+{
+    matches!(rows[place].0.order(key), Ordering::Equal)
+}
+
+// The place of the row that has the key, among the rows of a tag.
+pub(crate) fn place_of<V>(rows: &[(Key, V)], tags: &Tags, tag: u16, key: &Key) -> Option<usize>
+    requires { (place : ℕ) → Contains tags.now.pairs (tag, place) → place < length rows.now }
+    ensures { MatchOption result ((place : ℕ) (d : List ℕ × V) → Contains tags.now.pairs (tag, place) → is_same (slice_index_or rows.now place d).0 key.now ≡ false) (λ place. (place < length rows.now) × ((d : List ℕ × V) → is_same (slice_index_or rows.now place d).0 key.now ≡ true)) }
+{
+    tags.find(
+        tag,
+        |place: usize| -> bool
+            requires { place < length rows.now }
+            ensures { (d : List ℕ × V) → result ≡ is_same (slice_index_or rows.entry.now place d).0 key.entry.now }
+        { has_key(rows, place, key) },
+    )
+}
+
+// Takes out the tag of a row that is about to be exchanged for the last one.
+pub(crate) fn take_tag<V>(tags: &mut Tags, rows: &[(Key, V)], salt: u64, tag: u16, place: usize)
+    requires tags { AreTags salt rows.now tags.old.pairs }
+    requires in_range { place < length rows.now }
+    requires tag { (d : List ℕ × V) → tag ≡ tag_of salt (slice_index_or rows.now place d).0 }
+    ensures tags { (d : List ℕ × V) → AreTags salt (swap_remove rows.now place d) tags.new.pairs }
+    ensures spare { tags.old.spare ≤ tags.new.spare }
+{
+    let last = rows.len() - 1;
+    tags.remove(tag, place);
+    if place < last {
+        tags.moved(tag_of(salt, &rows[last].0), last, place);
+    }
+}
+
+// Adds the tags of the rows from a place on.
+pub(crate) fn add_tags<V>(tags: &mut Tags, rows: &[(Key, V)], salt: u64, from: usize)
+    requires tags { AreTags salt (take from rows.now) tags.old.pairs }
+    requires in_range { from ≤ length rows.now }
+    requires room { length rows.now - from ≤ tags.old.spare }
+    ensures tags { AreTags salt rows.now tags.new.pairs }
+    ensures spare { tags.old.spare ≤ tags.new.spare + (length rows.now - from) }
+{
+    for place in from..rows.len() {
+        tags.add(tag_of(salt, &rows[place].0), place);
+    }
+}
+
+// Makes the tags those of rows that have moved, in the room of the old ones.
+pub(crate) fn retag<V>(tags: &mut Tags, rows: &[(Key, V)], salt: u64)
+    requires { length rows.now ≤ length tags.old.pairs + tags.old.spare }
+    ensures tags { AreTags salt rows.now tags.new.pairs }
+    ensures spare { length tags.old.pairs + tags.old.spare ≤ length rows.now + tags.new.spare }
+{
+    tags.clear();
+    add_tags(tags, rows, salt, 0);
+}
