@@ -1,0 +1,69 @@
+-- What the words of a table say.
+use Rattle.std.specs.Prelude.{ℕ, ◌≡◌, ◌+◌, ◌-◌, ◌/◌, ◌%◌, ◌<◌, ◌≤◌, ◌==◌, List, [], ◌∷◌, length, slice_index, take}
+use Rattle.row_words.specs.Bytes.{bytes_from}
+use Rattle.row_words.specs.Layout.{longest_word, head_word, item_word, leaf_word}
+use Rattle.row_words.specs.declared.shape.Shape.{Shape}
+use Rattle.row_words.specs.declared.rows.ItemRow.{ItemRow}
+use Rattle.row_words.specs.declared.rows.Probe.{Probe}
+use Rattle.row_words.specs.declared.rows.Probe.TheVariants.{Same, Other}
+
+-- the length of the longest anchor, by the header
+abbrev pub longest_at : List ℕ → ℕ
+longest_at words = slice_index words longest_word % 4294967296
+
+-- the first item of a bucket as place + 1, or 0
+abbrev pub head_at : Shape → List ℕ → ℕ → ℕ
+head_at k words bucket = slice_index words (head_word k bucket) % 4294967296
+
+-- the hash of an item's prefix
+abbrev pub hash_at : Shape → List ℕ → ℕ → ℕ
+hash_at k words at = slice_index words (item_word k at)
+
+-- the word that has an item's link, length and mark
+abbrev pub link_word : Shape → List ℕ → ℕ → ℕ
+link_word k words at = slice_index words (item_word k at + 1)
+
+-- the item at a place
+abbrev pub item_at : Shape → List ℕ → ℕ → ItemRow
+item_at k words at = record {
+  next = link_word k words at % 4294967296;
+  len = link_word k words at / 4294967296 % 65536;
+  is_anchor = link_word k words at / 281474976710656 % 2 == 1;
+  leftmost = slice_index words (item_word k at + 2) % 4294967296;
+  rightmost = slice_index words (item_word k at + 2) / 4294967296;
+  bits = slice_index words (item_word k at + 3) ∷ slice_index words (item_word k at + 4) ∷ slice_index words (item_word k at + 5) ∷ slice_index words (item_word k at + 6) ∷ [];
+}
+
+-- the mark of a leaf's row: 0, or the length of its anchor + 1
+abbrev pub mark_at : Shape → List ℕ → ℕ → ℕ
+mark_at k words leaf = slice_index words (leaf_word k leaf)
+
+-- a leaf's row is in use
+abbrev pub IsLive : Shape → List ℕ → ℕ → Type 0
+IsLive k words leaf = (leaf < k.leaves) × (0 < mark_at k words leaf) × (mark_at k words leaf ≤ 256)
+
+-- the anchor of a live leaf
+abbrev pub anchor_at : Shape → List ℕ → ℕ → List ℕ
+anchor_at k words leaf = bytes_from words (leaf_word k leaf + 1) (mark_at k words leaf - 1)
+
+-- a live leaf's neighbours as number + 1, or 0
+abbrev pub previous_at : Shape → List ℕ → ℕ → ℕ
+previous_at k words leaf = slice_index words (leaf_word k leaf + 33) % 4294967296
+
+abbrev pub next_at : Shape → List ℕ → ℕ → ℕ
+next_at k words leaf = slice_index words (leaf_word k leaf + 34) % 4294967296
+
+-- an item stands there, and its leftmost leaf is live
+abbrev pub IsUsed : Shape → List ℕ → ℕ → Type 0
+IsUsed k words at = (at < k.items) × IsLive k words (item_at k words at).leftmost
+
+-- the item there is that of this prefix: by its hash, its length, and the anchor of its leftmost leaf
+pub record IsOf (k : Shape) (words : List ℕ) (at : ℕ) (prefix : List ℕ) (hash : ℕ) : Type 0 where
+  pub same_hash : hash_at k words at ≡ hash
+  pub same_len : (item_at k words at).len ≡ length prefix
+  pub same_bytes : take (length prefix) (anchor_at k words (item_at k words at).leftmost) ≡ prefix
+
+-- what a look at one item answers
+abbrev pub Probed : Shape → List ℕ → ℕ → List ℕ → ℕ → Probe → Type 0
+Probed k words at prefix hash (Same item) = (item ≡ item_at k words at) × IsOf k words at prefix hash
+Probed k words at prefix hash (Other next) = (next ≡ (item_at k words at).next) × ¬ IsOf k words at prefix hash

@@ -1,0 +1,129 @@
+//! Bytes of anchors, packed into words.
+
+ghost use Rattle.std.specs.Prelude.{◌≡◌, ◌<◌, ◌+◌, ◌*◌, ◌/◌, ◌%◌, ◌^◌, ◌==◌, ℕ, length, slice_index, IfOk};
+
+use std::alloc::{AllocError, Global};
+use std::marker::Model;
+
+/// The bytes of an anchor, 0 to 255, packed into words with the first byte lowest. A contract sees
+/// the list of the bytes.
+#[derive(Debug, Drop)]
+pub struct AnchorWords {
+    pub(crate) len: u32,
+    pub(crate) words: [u64; 32],
+}
+
+impl Model for AnchorWords {
+    ghost use Rattle.std.specs.Prelude.{List, ℕ, ◌<◌};
+    ghost use Rattle.row_words.specs.Bytes.{bytes_from};
+
+    ghost Value = { List ℕ };
+
+    ghost view = { λ a. bytes_from a.words 0 a.len };
+
+    ghost invariant = { λ a. a.len < 256 };
+}
+
+impl AnchorWords {
+    /// These bytes, packed.
+    pub fn new(bytes: &[u8]) -> AnchorWords
+        requires { length bytes.now < 256 }
+        ensures { result ≡ bytes.now }
+    {
+        let mut words = [0; 32];
+        for i in 0..32 {
+            words[i] = packed_word(bytes, i);
+        }
+        AnchorWords {
+            len: bytes.len() as u32,
+            words,
+        }
+    }
+
+    /// How many bytes there are.
+    pub fn len(&self) -> usize
+        ensures { result ≡ length self.now }
+    {
+        self.len as usize
+    }
+
+    /// Whether there is no byte.
+    pub fn is_empty(&self) -> bool
+        ensures { result ≡ (length self.now == 0) }
+    {
+        self.len == 0
+    }
+
+    /// The byte at an index.
+    pub fn byte(&self, i: usize) -> u8
+        requires { i < length self.now }
+        ensures { result ≡ slice_index self.now i }
+    {
+        ((self.words[i / 8] >> (8 * (i % 8))) & 0xff) as u8
+    }
+
+    /// A copy of the bytes.
+    pub fn to_vec(&self, alloc: Global) -> Result<Vec<u8>, AllocError>
+        ensures { IfOk result (λ bytes. bytes.items ≡ self.now) }
+    {
+        let mut bytes = Vec::with_capacity(alloc, self.len())?;
+        for i in 0..self.len() {
+            bytes.push(self.byte(i))?;
+        }
+        Ok(bytes)
+    }
+}
+
+/// Word `i` of these bytes as they are packed: eight of them, the first one lowest, with 0 for each
+/// that is past the end.
+pub fn packed_word(bytes: &[u8], i: usize) -> u64
+    requires { i < 2 ^ 32 }
+    ensures { (j : ℕ) → j < 8 → result / 2 ^ (8 * j) % 256 ≡ slice_index bytes.now (8 * i + j) }
+{
+    let low = four(bytes, 8 * i);
+    let high = four(bytes, 8 * i + 4);
+    low as u64 + high as u64 * 4_294_967_296
+}
+
+/// The four bytes from a place on, the first one lowest, with 0 for each that is past the end.
+fn four(bytes: &[u8], from: usize) -> u32
+    requires { from < 2 ^ 36 }
+    ensures first { result % 256 ≡ slice_index bytes.now from }
+    ensures second { result / 256 % 256 ≡ slice_index bytes.now (from + 1) }
+    ensures third { result / 65536 % 256 ≡ slice_index bytes.now (from + 2) }
+    ensures fourth { result / 16777216 ≡ slice_index bytes.now (from + 3) }
+{
+    let first = byte_or_zero(bytes, from) as u32;
+    let second = byte_or_zero(bytes, from + 1) as u32;
+    let third = byte_or_zero(bytes, from + 2) as u32;
+    let fourth = byte_or_zero(bytes, from + 3) as u32;
+    first + second * 256 + third * 65_536 + fourth * 16_777_216
+}
+
+fn byte_or_zero(bytes: &[u8], i: usize) -> u8
+    ensures { result ≡ slice_index bytes.now i }
+{
+    if i < bytes.len() { bytes[i] } else { 0 }
+}
+
+#[cfg(test)]
+mod tests {
+    use super::*;
+    use std::test::Fail;
+
+    #[test]
+    fn packs_bytes(rt: HostRuntime) -> Result<(), Fail> {
+        assert_eq!(rt; packed_word(b"Josephine", 0), 0x6e69_6870_6573_6f4a);
+        assert_eq!(rt; packed_word(b"Josephine", 1), 0x65);
+        assert_eq!(rt; packed_word(b"Josephine", 2), 0);
+        let anchor = AnchorWords::new(b"Josephine");
+        assert!(rt; !anchor.is_empty());
+        assert_eq!(rt; anchor.len(), 9);
+        assert_eq!(rt; anchor.byte(8), b'e');
+        assert_eq!(rt;
+            anchor.to_vec(rt.alloc())?.as_slice(),
+            b"Josephine".as_slice()
+        );
+        Ok(())
+    }
+}

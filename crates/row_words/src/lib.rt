@@ -1,0 +1,19 @@
+//! The words of one table of rows: their layout, what may read and write them, and a table that
+//! lies in a vector.
+#![tactic(auto)]
+
+mod anchor_words;
+mod leaves;
+mod probes;
+mod rows;
+mod shape;
+mod vec_rows;
+mod words;
+
+pub use anchor_words::{AnchorWords, packed_word};
+pub use leaves::leaf_words;
+pub use probes::probe_words;
+pub use rows::{ItemRow, LeafRow, Probe, Rows, RowsMut};
+pub use shape::{MakeFault, Shape, ShapeFault};
+pub use vec_rows::VecRows;
+pub use words::Words;

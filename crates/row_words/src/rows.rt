@@ -1,0 +1,137 @@
+//! What may read and write the rows of a table.
+
+ghost use Rattle.std.specs.Prelude.{◌≡◌, ◌<◌, ◌+◌, ◌%◌, ◌≤◌, length, slice_index, slice_set};
+ghost use Rattle.row_words.specs.Layout.{word_count};
+ghost use Rattle.row_words.specs.Shape.{IsShape};
+ghost use Rattle.row_words.specs.Decode.{longest_at, head_at, IsUsed, IsLive, Probed, anchor_at, previous_at, next_at};
+
+use crate::{AnchorWords, Shape};
+use std::sync::ledger::Ledger;
+use steps::Steps;
+
+/// The item of one prefix of an anchor.
+#[derive(Debug, Clone, Copy)]
+pub struct ItemRow {
+    /// The next item of the bucket as place + 1, or 0.
+    pub next: u32,
+    /// The prefix's length in bytes.
+    pub len: u32,
+    /// Whether the prefix is itself an anchor.
+    pub is_anchor: bool,
+    /// The leaf of the first anchor that begins with the prefix.
+    pub leftmost: u32,
+    /// The leaf of the last anchor that begins with the prefix.
+    pub rightmost: u32,
+    /// Which bytes may follow the prefix: byte c is bit `c % 64` of word `c / 64`.
+    pub bits: [u64; 4],
+}
+
+/// The row of one live leaf.
+#[derive(Debug, Drop)]
+pub struct LeafRow {
+    pub anchor: AnchorWords,
+    /// The leaf before it as number + 1, or 0.
+    pub previous: u32,
+    /// The leaf after it as number + 1, or 0.
+    pub next: u32,
+}
+
+/// What a look at one item tells of a prefix.
+#[derive(Debug, Clone, Copy)]
+pub enum Probe {
+    /// The item is that of the prefix.
+    Same(ItemRow),
+    /// It isn't; `next` is the next item of the bucket as place + 1, or 0.
+    Other { next: u32 },
+}
+
+/// All that a reader of a table has. No call changes a word, and a row is read only by a call that
+/// ticks a step. A reader may be lent by an owner who takes it back, so each call and each function
+/// over a reader also tells what `stays`: what else the owner finds as it was.
+pub trait Rows {
+    ghost use Rattle.std.specs.Prelude.{List, ℕ, ◌≡◌, length};
+    ghost use Rattle.row_words.specs.declared.shape.Shape.{Shape};
+    ghost use Rattle.row_words.specs.Layout.{word_count};
+    ghost use Rattle.row_words.specs.Shape.{IsShape};
+
+    ghost shape: { Self → Shape };
+
+    ghost words: { Self → List ℕ };
+
+    // What each call leaves as it is beside the words and the shape.
+    ghost stays: { Self → Self → Type 0 };
+
+    /// The number of buckets.
+    fn heads(&self) -> u32
+        ensures { result ≡ (shape self.now).heads };
+
+    /// Where the hashes of prefixes begin.
+    fn salt(&self) -> u64
+        ensures { result ≡ (shape self.now).salt };
+
+    /// The length of the longest anchor, by the header.
+    fn longest(&mut self) -> u32
+        ensures value { result ≡ longest_at (words self.old) }
+        ensures words { words self.new ≡ words self.old }
+        ensures shape { shape self.new ≡ shape self.old }
+        ensures stays { stays self.old self.new };
+
+    /// The first item of a bucket as place + 1, or 0.
+    fn head(&mut self, bucket: u32) -> u32
+        requires { bucket < (shape self.old).heads }
+        ensures value { result ≡ head_at (shape self.old) (words self.old) bucket }
+        ensures words { words self.new ≡ words self.old }
+        ensures shape { shape self.new ≡ shape self.old }
+        ensures stays { stays self.old self.new };
+
+    /// Whether the item at a place is that of this prefix, whose hash is given. It ticks one step.
+    fn probe<L: Ledger>(&mut self, at: u32, prefix: &[u8], hash: u64, steps: &mut Steps<L>) -> Probe
+        requires { IsUsed (shape self.old) (words self.old) at }
+        ensures value { Probed (shape self.old) (words self.old) at prefix.now hash result }
+        ensures steps { steps.new ≡ steps.old + 1 }
+        ensures words { words self.new ≡ words self.old }
+        ensures shape { shape self.new ≡ shape self.old }
+        ensures stays { stays self.old self.new };
+
+    /// The row of a live leaf. It ticks one step.
+    fn leaf<L: Ledger>(&mut self, at: u32, steps: &mut Steps<L>) -> LeafRow
+        requires { IsLive (shape self.old) (words self.old) at }
+        ensures anchor { result.anchor ≡ anchor_at (shape self.old) (words self.old) at }
+        ensures previous { result.previous ≡ previous_at (shape self.old) (words self.old) at }
+        ensures next { result.next ≡ next_at (shape self.old) (words self.old) at }
+        ensures steps { steps.new ≡ steps.old + 1 }
+        ensures words { words self.new ≡ words self.old }
+        ensures shape { shape self.new ≡ shape self.old }
+        ensures stays { stays self.old self.new };
+
+    ghost ranges: { (a : Self) → IsShape (shape a) };
+
+    // There are as many words as the shape says.
+    ghost sized: { (a : Self) → length (words a) ≡ word_count (shape a) };
+
+    ghost stays_refl: { (a : Self) → stays a a };
+
+    ghost stays_trans: { (a b c : Self) → stays a b → stays b c → stays a c };
+}
+
+/// What a writer has too: the words one by one.
+pub trait RowsMut: Rows {
+    /// The numbers by which the words are laid out.
+    fn layout(&self) -> Shape
+        ensures { result ≡ Self.shape self.now };
+
+    /// The word at a place.
+    fn word(&mut self, i: u32) -> u64
+        requires { i < word_count (Self.shape self.old) }
+        ensures value { result ≡ slice_index (Self.words self.old) i }
+        ensures words { Self.words self.new ≡ Self.words self.old }
+        ensures shape { Self.shape self.new ≡ Self.shape self.old }
+        ensures stays { Self.stays self.old self.new };
+
+    /// Writes the word at a place.
+    fn set_word(&mut self, i: u32, word: u64)
+        requires { i < word_count (Self.shape self.old) }
+        ensures words { Self.words self.new ≡ slice_set (Self.words self.old) i word }
+        ensures shape { Self.shape self.new ≡ Self.shape self.old }
+        ensures stays { Self.stays self.old self.new };
+}
