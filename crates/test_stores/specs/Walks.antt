@@ -1,9 +1,12 @@
 -- A put and then a get, and a walk by parts.
-use Rattle.std.specs.Prelude.{◌≡◌, ◌≢◌, ℕ, ◌+◌, List, [], ◌∷◌, ◌++◌, Bool, length}
+use Rattle.std.specs.Prelude.{◌≡◌, ◌≢◌, ℕ, ◌+◌, List, [], ◌∷◌, ◌++◌, Bool, Option, Some, Result, Ok, Err, length}
 use Rattle.std.specs.List.{flat_map}
 use Rattle.std.specs.declared.cmp.Ordering.TheVariants.{Less, Greater}
 use Rattle.key_bytes.specs.Bound.{bound_cmp}
 use Rattle.key_bytes.specs.declared.bound.Bound.{Bound}
+use Rattle.counts.specs.Counts.{Rose}
+use Rattle.map_model.specs.declared.refusal.Refusal.{Refusal}
+use Rattle.map_model.specs.declared.refusal.Refusal.TheVariants.{Again, Full, NoMemory}
 use Rattle.map_model.specs.Maps.{Pairs}
 use Rattle.map_model.specs.Calls as calls
 use Rattle.map_model.specs.History.{Entry, own, entry_of}
@@ -38,3 +41,10 @@ pairs_of entries = flat_map (λ (e : Entry). pairs_in e.reply) entries
 -- parts that tile the range up to an end are new in the history, and their pairs were added
 abbrev pub Walks : ℕ → Bool → Bound → Bound → Pairs (List ℕ) → Pairs (List ℕ) → Bound → List Entry → List Entry → Type 0
 Walks lane sole from to before now last old new = (entries : List Entry) × Grows lane sole entries old new × Tile from to entries last × (now ≡ before ++ pairs_of entries)
+
+-- a refusal for another lane or for want of room is one that the store counted, and its last
+abbrev pub IsTold : {T : Type 0} → ℕ → ℕ → Option Refusal → Result T Refusal → Type 0
+IsTold before now last (Ok x) = Unit {0}
+IsTold before now last (Err NoMemory) = Unit {0}
+IsTold before now last (Err (Again cause)) = Rose before now × (last ≡ Some (Again cause))
+IsTold before now last (Err (Full cause)) = Rose before now × (last ≡ Some (Full cause))

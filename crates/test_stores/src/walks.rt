@@ -4,7 +4,7 @@ ghost use Rattle.key_bytes.specs.Bound.{bound_cmp};
 ghost use Rattle.map_model.specs.Maps.{between};
 ghost use Rattle.map_model.specs.History.{Entry, after};
 ghost use Rattle.map_model.specs.Ordered.{Follows, got};
-ghost use Rattle.test_stores.specs.Walks.{PutsThenGets, Goes, Walks};
+ghost use Rattle.test_stores.specs.Walks.{PutsThenGets, Goes, IsTold, Walks};
 
 use key_bytes::{Bound, Key};
 use map_model::{Ordered, Page, Refusal};
@@ -25,6 +25,7 @@ pub fn put_then_get<O: Ordered>(
         → O.stands store.old seen → IsTrue found × (out.new.items ≡ value.now)) }
     ensures refused { OnErr result (Follows (O.stands store.old) (O.stands store.new)
         (Goes (O.lane store.old) (O.sole store.old))) }
+    ensures told { IsTold (O.refusals store.old) (O.refusals store.new) (O.last store.new) result }
 {
     store.put(key, value)?;
     store.get(key, out)
@@ -46,6 +47,7 @@ pub fn walk<O: Ordered>(
         → O.stands store.old seen → all.new.pairs ≡ all.old.pairs ++ between (after seen) from to.now) }
     ensures refused { OnErr result (Follows (O.stands store.old) (O.stands store.new)
         (Goes (O.lane store.old) (O.sole store.old))) }
+    ensures told { IsTold (O.refusals store.old) (O.refusals store.new) (O.last store.new) result }
 {
     walk_parts(alloc, store, from, to, all)
 }
@@ -63,6 +65,7 @@ fn walk_parts<O: Ordered>(
         (Walks (O.lane store.old) (O.sole store.old) from to.now all.old.pairs all.new.pairs to.now)) }
     ensures refused { OnErr result (Follows (O.stands store.old) (O.stands store.new)
         (Goes (O.lane store.old) (O.sole store.old))) }
+    ensures told { IsTold (O.refusals store.old) (O.refusals store.new) (O.last store.new) result }
 {
     let mut page = Page::new(alloc);
     let mut at = from;

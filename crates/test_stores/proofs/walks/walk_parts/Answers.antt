@@ -11,6 +11,7 @@ parts-init g c = record {
   less = c.requires;
   lane = refl;
   sole = refl;
+  count = refl;
   walk = walks_none _ _ _ _ _ _ (λ old history. g.met.O.Ordered.stands_legal _ old history);
 }
 
@@ -30,6 +31,7 @@ parts-preserved g c =
       less = less_from _ (ap is_lt (sym c.order-order.ensures.order) ∙ (sym c.is_lt.ensures ∙ c.if-not-is_lt.false));
       lane = part.kept.0 ∙ now.lane;
       sole = part.kept.1 ∙ now.sole;
+      count = part.counted.0 ∙ now.count;
       walk = walks_more _ _ _ _ _ _ _ _ _ _ _ _ _ now.walk (rw (now.lane, now.sole) at part.ok) part.above part.within c.in_ok-add_all.ensures;
     }
 

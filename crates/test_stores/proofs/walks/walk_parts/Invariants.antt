@@ -13,6 +13,7 @@ invariant-parts g l = record {
   less : bound_cmp l.at l.to ≡ Less;
   lane : g.O.Ordered.lane l.store ≡ g.O.Ordered.lane l.fn.store;
   sole : g.O.Ordered.sole l.store ≡ g.O.Ordered.sole l.fn.store;
+  count : g.O.Ordered.refusals l.store ≡ g.O.Ordered.refusals l.fn.store;
   walk : Follows (g.O.Ordered.stands l.fn.store) (g.O.Ordered.stands l.store) (Walks (g.O.Ordered.lane l.fn.store) (g.O.Ordered.sole l.fn.store) l.fn.from l.to l.fn.all.pairs l.all.pairs l.at);
 }
 

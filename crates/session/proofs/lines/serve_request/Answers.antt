@@ -1,0 +1,26 @@
+use Rattle.std.proofs.Common.{sym, ap, ◌∙◌}
+use Rattle.line_protocol.specs.declared.request.Request.TheVariants as asks
+use Rattle.session.proofs.Joining.{transcribes_told}
+use Rattle.session.proofs.OneCall.{line_told, one_asked}
+use Rattle.session.proofs.lines.serve_request.Goals as goal
+
+pub returns-in-Put-clause-served : goal.returns-in-Put-clause-served
+returns-in-Put-clause-served g c =
+    transcribes_told _ _ _ _ _ _ _ _ _ _ _ _ _ _ (λ xs p. p ∙ one_asked _ c.args.request (ap (λ v. asks.Put c.in-Put.key v) c.get.ensures ∙ sym c.in-Put.is)) (λ xs p. p) c.serve_put.ensures.served
+
+pub returns-in-Get-clause-served : goal.returns-in-Get-clause-served
+returns-in-Get-clause-served g c =
+    transcribes_told _ _ _ _ _ _ _ _ _ _ _ _ _ _ (λ xs p. p ∙ one_asked _ c.args.request (sym c.in-Get.is)) (λ xs p. p) c.serve_get.ensures.served
+
+pub returns-in-Del-clause-served : goal.returns-in-Del-clause-served
+returns-in-Del-clause-served g c =
+    transcribes_told _ _ _ _ _ _ _ _ _ _ _ _ _ _ (λ xs p. p ∙ one_asked _ c.args.request (sym c.in-Del.is)) (λ xs p. p) c.serve_del.ensures.served
+
+pub returns-in-Scan-clause-served : goal.returns-in-Scan-clause-served
+returns-in-Scan-clause-served g c =
+    transcribes_told _ _ _ _ _ _ _ _ _ _ _ _ _ _ (λ xs p. p ∙ one_asked _ c.args.request (sym c.in-Scan.is)) (λ xs p. p) c.serve_scan.ensures.served
+
+pub returns-in-Quit-clause-served : goal.returns-in-Quit-clause-served
+returns-in-Quit-clause-served g c =
+    transcribes_told _ _ _ _ _ _ _ _ _ _ _ _ _ _ (λ xs p. p ∙ one_asked asks.Quit c.args.request (sym c.in-Quit.is)) (λ xs p. p)
+    (line_told _ _ _ _ _ _ _ _ _ _ (λ seen x told. told) (λ old history. g.met.O.Ordered.stands_legal _ old history) c.reply.ensures.gained)

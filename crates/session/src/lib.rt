@@ -1,0 +1,14 @@
+//! Sessions: lines of requests are read, served by calls of a store, and answered by lines.
+#![tactic(auto)]
+
+mod attempts;
+mod buffers;
+mod lines;
+mod patience;
+mod requests;
+mod scans;
+mod session;
+mod writes;
+
+pub use patience::{Bounded, Patience};
+pub use session::{SessionEnd, serve};

@@ -1,0 +1,92 @@
+//! Requests that are served by one call, or by none.
+ghost use Rattle.std.specs.Prelude.{◌≡◌, ◌≤◌, ◌∷◌, [], length, List, Ok, Err, Some};
+ghost use Rattle.line_protocol.specs.Requests.{IsRequest};
+ghost use Rattle.line_protocol.specs.declared.request.Request.TheVariants as asks;
+ghost use Rattle.map_model.specs.History.{Entry};
+ghost use Rattle.outside.specs.Causes.{FaultsCounted};
+ghost use Rattle.session.specs.Transcripts.{Serves};
+ghost use Rattle.session.specs.Writes.{Gained};
+
+use crate::attempts::{del_patiently, get_patiently, put_patiently};
+use crate::buffers::Buffers;
+use crate::patience::Patience;
+use crate::writes::{refuse, reply};
+use key_bytes::Key;
+use line_protocol::Answer;
+use map_model::Ordered;
+use outside::{Sink, Stop};
+
+/// Serves a put, and writes its line.
+pub(crate) fn serve_put<O: Ordered, K: Sink, P: Patience>(
+    store: &mut O,
+    sink: &mut K,
+    patience: &mut P,
+    buffers: &mut Buffers,
+    key: &Key,
+    value: &[u8],
+) -> Result<(), Stop>
+    requires { length value.now ≤ 1024 }
+    ensures served { Serves O.stands O.lane O.sole O.fits O.refusals O.last (P.limit patience.old) store.old store.new
+        (λ asked. asked ≡ Ok (Some (asks.Put key.now value.now)) ∷ [])
+        (Gained result (K.written sink.old) (K.written sink.new)) }
+    ensures kept { (O.lane store.new ≡ O.lane store.old) × (O.sole store.new ≡ O.sole store.old)
+        × (O.origin store.new ≡ O.origin store.old) × (P.limit patience.new ≡ P.limit patience.old) }
+    ensures fits { (history : List Entry) → O.fits store.old history → O.fits store.new history }
+    ensures cause { FaultsCounted (K.faults sink.old) (K.faults sink.new) result }
+{
+    match put_patiently(store, patience, key, value) {
+        Ok(true) => reply(sink, &mut buffers.reply, &Answer::New),
+        Ok(false) => reply(sink, &mut buffers.reply, &Answer::Set),
+        Err(refusal) => refuse(sink, &mut buffers.reply, refusal),
+    }
+}
+
+/// Serves a get, and writes its line.
+pub(crate) fn serve_get<O: Ordered, K: Sink, P: Patience>(
+    store: &mut O,
+    sink: &mut K,
+    patience: &mut P,
+    buffers: &mut Buffers,
+    key: &Key,
+) -> Result<(), Stop>
+    ensures served { Serves O.stands O.lane O.sole O.fits O.refusals O.last (P.limit patience.old) store.old store.new
+        (λ asked. asked ≡ Ok (Some (asks.Get key.now)) ∷ [])
+        (Gained result (K.written sink.old) (K.written sink.new)) }
+    ensures kept { (O.lane store.new ≡ O.lane store.old) × (O.sole store.new ≡ O.sole store.old)
+        × (O.origin store.new ≡ O.origin store.old) × (P.limit patience.new ≡ P.limit patience.old) }
+    ensures fits { (history : List Entry) → O.fits store.old history → O.fits store.new history }
+    ensures cause { FaultsCounted (K.faults sink.old) (K.faults sink.new) result }
+{
+    match get_patiently(store, patience, key, &mut buffers.value) {
+        Ok(true) => reply(
+            sink,
+            &mut buffers.reply,
+            &Answer::Value(buffers.value.as_slice()),
+        ),
+        Ok(false) => reply(sink, &mut buffers.reply, &Answer::Absent),
+        Err(refusal) => refuse(sink, &mut buffers.reply, refusal),
+    }
+}
+
+/// Serves a del, and writes its line.
+pub(crate) fn serve_del<O: Ordered, K: Sink, P: Patience>(
+    store: &mut O,
+    sink: &mut K,
+    patience: &mut P,
+    buffers: &mut Buffers,
+    key: &Key,
+) -> Result<(), Stop>
+    ensures served { Serves O.stands O.lane O.sole O.fits O.refusals O.last (P.limit patience.old) store.old store.new
+        (λ asked. asked ≡ Ok (Some (asks.Del key.now)) ∷ [])
+        (Gained result (K.written sink.old) (K.written sink.new)) }
+    ensures kept { (O.lane store.new ≡ O.lane store.old) × (O.sole store.new ≡ O.sole store.old)
+        × (O.origin store.new ≡ O.origin store.old) × (P.limit patience.new ≡ P.limit patience.old) }
+    ensures fits { (history : List Entry) → O.fits store.old history → O.fits store.new history }
+    ensures cause { FaultsCounted (K.faults sink.old) (K.faults sink.new) result }
+{
+    match del_patiently(store, patience, key) {
+        Ok(true) => reply(sink, &mut buffers.reply, &Answer::Gone),
+        Ok(false) => reply(sink, &mut buffers.reply, &Answer::Absent),
+        Err(refusal) => refuse(sink, &mut buffers.reply, refusal),
+    }
+}
