@@ -1,0 +1,2 @@
+mod OneWord
+mod Running

@@ -1,0 +1,56 @@
+//! The program of Muslinscree: `worm run` answers the requests of standard input over an ordered map, on
+//! standard output.
+#![tactic(auto)]
+
+mod script;
+#[cfg(test)]
+mod tests;
+mod top;
+
+use outside::{StdSink, StdSource};
+use std::io::ErrorKind;
+use std::process::ExitCode;
+use std::rt::Env;
+use std::{env, io};
+use top::{Outcome, worm};
+
+fn main(rt: HostRuntime) -> ExitCode {
+    let Outcome { status } = match words(&rt) {
+        Ok(words) => {
+            let mut source = StdSource::new(rt.stdin());
+            let mut sink = StdSink::new(rt.stdout());
+            worm(rt.alloc(), &words, &mut source, &mut sink)
+        }
+        Err(error) => unread_words(&error),
+    };
+    if let Some(fault) = fault_text(status) {
+        // There is no other place to tell of it.
+        let _ = eprintln!(rt; "worm: {fault}");
+    }
+    ExitCode::from(status)
+}
+
+/// The words after the program's name.
+fn words(rt: &(impl Env + AllocGlobal)) -> io::Result<Vec<String>> {
+    Ok(env::args(rt)?.skip(1).collect(rt.alloc())?)
+}
+
+/// How the program ends where its words can't be read: a word that isn't UTF-8 is no command's.
+fn unread_words(error: &io::Error) -> Outcome {
+    match error.kind() {
+        ErrorKind::InvalidData => Outcome { status: 2 },
+        _ => Outcome { status: 5 },
+    }
+}
+
+/// What is told of a status on standard error.
+fn fault_text(status: u8) -> Option<&'static str> {
+    match status {
+        0 => None,
+        2 => Some("words"),
+        3 => Some("read fault"),
+        4 => Some("write fault"),
+        5 => Some("no memory"),
+        _ => Some("input too long"),
+    }
+}

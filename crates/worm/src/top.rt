@@ -1,0 +1,55 @@
+//! The program as a call over any source and sink.
+ghost use Rattle.std.specs.Prelude.{◌≡◌, ◌≢◌, ◌↔◌, IsTrue, map, string_bytes};
+ghost use Rattle.counts.specs.Counts.{Rose};
+ghost use Rattle.worm.specs.Runs.{IsRun, IsStatus, Ran};
+
+use crate::script::run_script;
+use outside::{Sink, Source};
+use std::alloc::Global;
+
+/// How a command ended.
+///
+/// | status | the command |
+/// |---|---|
+/// | 0 | is done |
+/// | 2 | isn't one that the program knows |
+/// | 3 | couldn't read its input |
+/// | 4 | couldn't write its output |
+/// | 5 | had no memory |
+/// | 7 | took 2^40 bytes, which are the most, without another end |
+#[derive(Clone, Copy, Debug, PartialEq, Eq)]
+pub struct Outcome {
+    pub status: u8,
+}
+
+/// Carries out the command of these words, which are those after the program's name. The only command is `run`.
+pub fn worm<S: Source, K: Sink>(
+    alloc: Global,
+    words: &Vec<String>,
+    source: &mut S,
+    sink: &mut K,
+) -> Outcome
+    ensures words { (result.status ≡ 2) ↔ (¬ IsRun (map string_bytes words.now.items)) }
+    ensures untouched { result.status ≡ 2 → (source.new ≡ source.old) × (sink.new ≡ sink.old) }
+    ensures status { IsStatus result.status }
+    ensures ran { result.status ≢ 2 → Ran result.status (S.told source.old) (S.told source.new)
+        (K.written sink.old) (K.written sink.new) }
+    ensures read_fault { result.status ≡ 3 → Rose (S.faults source.old) (S.faults source.new) }
+    ensures write_fault { result.status ≡ 4 → Rose (K.faults sink.old) (K.faults sink.new) }
+{
+    if is_run(words) {
+        run_script(alloc, source, sink)
+    } else {
+        Outcome { status: 2 }
+    }
+}
+
+/// Whether the words are the one word `run`.
+fn is_run(words: &[String]) -> bool
+    ensures { IsTrue result ↔ IsRun (map string_bytes words.now) }
+{
+    match words {
+        [word] => word.as_str() == "run",
+        _ => false,
+    }
+}
