@@ -32,27 +32,41 @@ fn assert_same<R: Abort>(
     Ok(())
 }
 
+// One call of both, with the same answers.
+fn assert_same_answers<R: Abort>(
+    rt: &R,
+    leaf: &mut Leaf<u32>,
+    map: &mut BTreeMap<u16, u32>,
+    key: Key,
+    number: u16,
+    value: u32,
+) -> Result<(), Fail> {
+    assert_eq!(rt; leaf.find(&key), map.get(&number));
+    if value % 4 == 0 {
+        assert_eq!(rt; leaf.remove(&key), map.remove(&number));
+    } else {
+        leaf.reserve_one()?;
+        assert_eq!(rt;
+            leaf.insert_reserved(key, value),
+            map.insert(number, value)?
+        );
+    }
+    Ok(())
+}
+
 #[test]
 fn generated_calls_agree_with_a_map(rt: HostRuntime) -> Result<(), Fail> {
     let mut leaf = Leaf::new(rt.alloc(), 0);
     let mut map = BTreeMap::new(rt.alloc());
     let mut state = 1_u64;
-    for value in 0..2000 {
+    for _ in 0..2000 {
         state = state
             .wrapping_mul(6_364_136_223_846_793_005)
             .wrapping_add(1_442_695_040_888_963_407);
         let number = (state >> 58) as u16 + 200;
+        let value = (state % 4_294_967_296) as u32 / 65536;
         let key = key_of(rt.alloc(), number)?;
-        assert_eq!(rt; leaf.find(&key), map.get(&number));
-        if (state >> 40) % 4 == 0 {
-            assert_eq!(rt; leaf.remove(&key), map.remove(&number));
-        } else {
-            leaf.reserve_one()?;
-            assert_eq!(rt;
-                leaf.insert_reserved(key, value),
-                map.insert(number, value)?
-            );
-        }
+        assert_same_answers(&rt, &mut leaf, &mut map, key, number, value)?;
         assert_same(&rt, &mut leaf, &map)?;
     }
     Ok(())
