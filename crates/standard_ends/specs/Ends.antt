@@ -1,0 +1,10 @@
+-- What the ends tell: how often they failed, and nothing of bytes.
+use Rattle.std.specs.Prelude.{ℕ}
+use Rattle.standard_ends.specs.declared.ends.BufferedSink.{BufferedSink}
+use Rattle.standard_ends.specs.declared.ends.FlushingSource.{FlushingSource}
+
+abbrev pub source_faults : {R W : Type 0} → FlushingSource R W → ℕ
+source_faults s = s.faults
+
+abbrev pub sink_faults : {W : Type 0} → BufferedSink W → ℕ
+sink_faults s = s.faults

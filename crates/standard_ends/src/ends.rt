@@ -1,0 +1,90 @@
+//! A source and a sink over std's readers and writers. No contract says which bytes the system gives and takes, so
+//! these tell nothing of bytes: they count their failures.
+ghost use Rattle.std.specs.Prelude.{◌≡◌, None};
+
+use crate::outgoing::Outgoing;
+use counts::raise;
+use outside::{Sink, Source, Stop};
+use std::cell::RefCell;
+use std::io::{Read, Write};
+
+/// A source over a reader. Before each read it has the bytes handed on that wait for the writer, so that whoever
+/// answers them can. Each error of the reader is a fault; a failing writer is told by the next write.
+#[derive(Drop)]
+pub struct FlushingSource<'a, R, W> {
+    reader: R,
+    outgoing: &'a RefCell<Outgoing<W>>,
+    faults: u64,
+}
+
+impl<'a, R, W> FlushingSource<'a, R, W> {
+    ghost use Rattle.standard_ends.specs.Ends.{source_faults};
+
+    pub fn new(reader: R, outgoing: &'a RefCell<Outgoing<W>>) -> FlushingSource<'a, R, W>
+        ensures { source_faults result ≡ 0 }
+    {
+        FlushingSource {
+            reader,
+            outgoing,
+            faults: 0,
+        }
+    }
+}
+
+impl<R: Read, W: Write> Source for FlushingSource<'_, R, W> {
+    ghost use Rattle.standard_ends.specs.Ends.{source_faults};
+
+    ghost told = { λ s. None };
+
+    ghost faults = { λ s. source_faults s };
+
+    fn read(&mut self, buf: &mut [u8]) -> Result<usize, Stop> {
+        if let Ok(mut outgoing) = self.outgoing.try_borrow_mut() {
+            if let Ok(n) = outgoing.read_behind(&mut self.reader, buf) {
+                return Ok(n);
+            }
+        }
+        self.faults = raise(self.faults);
+        Err(Stop::Failed)
+    }
+}
+
+/// A sink that collects what is written, on its way to a writer. Each failure of the writer is a fault of the
+/// write that is told of it, and of all later ones.
+#[derive(Drop)]
+pub struct BufferedSink<'a, W> {
+    outgoing: &'a RefCell<Outgoing<W>>,
+    faults: u64,
+}
+
+impl<'a, W> BufferedSink<'a, W> {
+    ghost use Rattle.standard_ends.specs.Ends.{sink_faults};
+
+    pub fn new(outgoing: &'a RefCell<Outgoing<W>>) -> BufferedSink<'a, W>
+        ensures { sink_faults result ≡ 0 }
+    {
+        BufferedSink {
+            outgoing,
+            faults: 0,
+        }
+    }
+}
+
+impl<W: Write> Sink for BufferedSink<'_, W> {
+    ghost use Rattle.standard_ends.specs.Ends.{sink_faults};
+
+    ghost written = { λ s. None };
+
+    ghost faults = { λ s. sink_faults s };
+
+    fn write(&mut self, bytes: &[u8]) -> Result<usize, Stop> {
+        let answer = match self.outgoing.try_borrow_mut() {
+            Ok(mut outgoing) => outgoing.write(bytes),
+            Err(_) => Err(Stop::Failed),
+        };
+        if answer == Err(Stop::Failed) {
+            self.faults = raise(self.faults);
+        }
+        answer
+    }
+}
