@@ -3,5 +3,4 @@ pub mod Memory
 pub mod Moved
 pub mod Plans
 pub mod Reading
-pub mod Standard
 pub mod Writing

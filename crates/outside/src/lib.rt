@@ -1,12 +1,11 @@
 //! Where bytes come from and where they go, by traits that count their faults; and a source and a sink
-//! in memory, whose contracts tell each byte, and over std's readers and writers.
+//! in memory, whose contracts tell each byte.
 #![tactic(auto)]
 
 mod memory;
 mod plan;
 mod sink;
 mod source;
-mod standard;
 mod stop;
 #[cfg(test)]
 mod tests;
@@ -14,5 +13,4 @@ mod tests;
 pub use memory::{MemSink, MemSource};
 pub use sink::Sink;
 pub use source::Source;
-pub use standard::{StdSink, StdSource};
 pub use stop::Stop;

@@ -11,19 +11,19 @@ use std::io::{Read, Write};
 /// A source over a reader. Before each read it has the bytes handed on that wait for the writer, so that whoever
 /// answers them can. Each error of the reader is a fault; a failing writer is told by the next write.
 #[derive(Drop)]
-pub struct FlushingSource<'a, R, W> {
+pub struct StdSource<'a, R, W> {
     reader: R,
     outgoing: &'a RefCell<Outgoing<W>>,
     faults: u64,
 }
 
-impl<'a, R, W> FlushingSource<'a, R, W> {
+impl<'a, R, W> StdSource<'a, R, W> {
     ghost use Rattle.standard_ends.specs.Ends.{source_faults};
 
-    pub fn new(reader: R, outgoing: &'a RefCell<Outgoing<W>>) -> FlushingSource<'a, R, W>
+    pub fn new(reader: R, outgoing: &'a RefCell<Outgoing<W>>) -> StdSource<'a, R, W>
         ensures { source_faults result ≡ 0 }
     {
-        FlushingSource {
+        StdSource {
             reader,
             outgoing,
             faults: 0,
@@ -31,7 +31,7 @@ impl<'a, R, W> FlushingSource<'a, R, W> {
     }
 }
 
-impl<R: Read, W: Write> Source for FlushingSource<'_, R, W> {
+impl<R: Read, W: Write> Source for StdSource<'_, R, W> {
     ghost use Rattle.standard_ends.specs.Ends.{source_faults};
 
     ghost told = { λ s. None };
@@ -52,25 +52,25 @@ impl<R: Read, W: Write> Source for FlushingSource<'_, R, W> {
 /// A sink that collects what is written, on its way to a writer. Each failure of the writer is a fault of the
 /// write that is told of it, and of all later ones.
 #[derive(Drop)]
-pub struct BufferedSink<'a, W> {
+pub struct StdSink<'a, W> {
     outgoing: &'a RefCell<Outgoing<W>>,
     faults: u64,
 }
 
-impl<'a, W> BufferedSink<'a, W> {
+impl<'a, W> StdSink<'a, W> {
     ghost use Rattle.standard_ends.specs.Ends.{sink_faults};
 
-    pub fn new(outgoing: &'a RefCell<Outgoing<W>>) -> BufferedSink<'a, W>
+    pub fn new(outgoing: &'a RefCell<Outgoing<W>>) -> StdSink<'a, W>
         ensures { sink_faults result ≡ 0 }
     {
-        BufferedSink {
+        StdSink {
             outgoing,
             faults: 0,
         }
     }
 }
 
-impl<W: Write> Sink for BufferedSink<'_, W> {
+impl<W: Write> Sink for StdSink<'_, W> {
     ghost use Rattle.standard_ends.specs.Ends.{sink_faults};
 
     ghost written = { λ s. None };

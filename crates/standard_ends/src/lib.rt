@@ -7,5 +7,5 @@ mod outgoing;
 #[cfg(test)]
 mod tests;
 
-pub use ends::{BufferedSink, FlushingSource};
+pub use ends::{StdSink, StdSource};
 pub use outgoing::Outgoing;

@@ -75,8 +75,8 @@ fn what_waits_is_handed_on_before_a_read(rt: HostRuntime) {
             kind,
         };
         let outgoing = RefCell::new(Outgoing::new(rt.alloc(), narrow));
-        let mut sink = BufferedSink::new(&outgoing);
-        let mut source = FlushingSource::new(b"x".as_slice(), &outgoing);
+        let mut sink = StdSink::new(&outgoing);
+        let mut source = StdSource::new(b"x".as_slice(), &outgoing);
         let mut buf = [0; 4];
         assert_eq!(rt; sink.write(b"abcde"), Ok(5));
         assert_taken(&rt, &taken, b"");
@@ -91,7 +91,7 @@ fn what_waits_is_handed_on_before_a_read(rt: HostRuntime) {
 #[test]
 fn a_full_buffer_is_handed_on(rt: HostRuntime) -> Result<(), Fail> {
     let outgoing = RefCell::new(Outgoing::new(rt.alloc(), Vec::new(rt.alloc())));
-    let mut sink = BufferedSink::new(&outgoing);
+    let mut sink = StdSink::new(&outgoing);
     let bytes = vec![in rt.alloc(); 7; 65_535]?;
     for (write, answer) in [
         (bytes.as_slice(), Ok(65_535)),
@@ -112,7 +112,7 @@ fn a_reader_that_fails_is_a_fault(rt: HostRuntime) {
     let outgoing = RefCell::new(Outgoing::new(rt.alloc(), Vec::new(rt.alloc())));
     let mut buf = [0; 2];
     assert_eq!(rt;
-        FlushingSource::new(Broken, &outgoing).read(&mut buf),
+        StdSource::new(Broken, &outgoing).read(&mut buf),
         Err(Stop::Failed)
     );
 }
