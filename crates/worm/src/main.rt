@@ -7,7 +7,8 @@ mod script;
 mod tests;
 mod top;
 
-use outside::{StdSink, StdSource};
+use standard_ends::{Outgoing, StdSink, StdSource};
+use std::cell::RefCell;
 use std::io::ErrorKind;
 use std::process::ExitCode;
 use std::rt::Env;
@@ -16,11 +17,7 @@ use top::{Outcome, worm};
 
 fn main(rt: HostRuntime) -> ExitCode {
     let Outcome { status } = match words(&rt) {
-        Ok(words) => {
-            let mut source = StdSource::new(rt.stdin());
-            let mut sink = StdSink::new(rt.stdout());
-            worm(rt.alloc(), &words, &mut source, &mut sink)
-        }
+        Ok(words) => over_standard_ends(&rt, &words),
         Err(error) => unread_words(&error),
     };
     if let Some(fault) = fault_text(status) {
@@ -28,6 +25,19 @@ fn main(rt: HostRuntime) -> ExitCode {
         let _ = eprintln!(rt; "worm: {fault}");
     }
     ExitCode::from(status)
+}
+
+/// Carries out the command over standard input and output. Replies that can't be handed on at its end are a write
+/// fault as well, however it ended.
+fn over_standard_ends(rt: &HostRuntime, words: &Vec<String>) -> Outcome {
+    let outgoing = RefCell::new(Outgoing::new(rt.alloc(), rt.stdout()));
+    let mut source = StdSource::new(rt.stdin(), &outgoing);
+    let mut sink = StdSink::new(&outgoing);
+    let outcome = worm(rt.alloc(), words, &mut source, &mut sink);
+    match outgoing.into_inner().finish() {
+        Some(_) => outcome,
+        None => Outcome { status: 4 },
+    }
 }
 
 /// The words after the program's name.
