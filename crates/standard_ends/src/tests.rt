@@ -102,8 +102,8 @@ fn a_full_buffer_is_handed_on(rt: HostRuntime) -> Result<(), Fail> {
         assert_eq!(rt; sink.write(write), answer);
     }
     let all = outgoing.into_inner().finish().ok_or("the writer failed")?;
-    assert_eq!(rt; &all[..65_535], bytes.as_slice());
-    assert_eq!(rt; &all[65_535..], b"ab".as_slice());
+    assert_eq!(rt; all.len(), 65_537);
+    assert!(rt; all.starts_with(&bytes) && all.ends_with(b"ab"));
     Ok(())
 }
 
