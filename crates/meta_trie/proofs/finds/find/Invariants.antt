@@ -1,0 +1,16 @@
+use Rattle.std.proofs.Common.{◌≡◌, ◌+◌, ◌-◌, ℕ, List, length, Option}
+use Rattle.anchor_rules.specs.Items.{Item}
+use Rattle.meta_trie.specs.Trie.{Holds, bucket_of}
+use Rattle.meta_trie.proofs.Walks.{Walk}
+use Rattle.meta_trie.proofs.finds.find.Given as goal
+
+abbrev pub invariant-loop-link : goal.invariant-loop-link
+invariant-loop-link g l = record {
+  words : g.R.Rows.words l.rows ≡ g.R.Rows.words l.fn.rows;
+  shape : g.R.Rows.shape l.rows ≡ g.R.Rows.shape l.fn.rows;
+  stays : g.R.Rows.stays l.fn.rows l.rows;
+  walk : (known : List ℕ → Option Item) (h : Holds (g.R.Rows.shape l.fn.rows) (g.R.Rows.words l.fn.rows) known) → Walk (g.R.Rows.shape l.fn.rows) (g.R.Rows.words l.fn.rows) known (h.buckets (bucket_of (g.R.Rows.shape l.fn.rows) l.prefix)) l.prefix l.link l.before l.steps (l.fn.steps + length (h.buckets (bucket_of (g.R.Rows.shape l.fn.rows) l.prefix)));
+}
+
+abbrev pub decreases-loop-link : goal.decreases-loop-link
+decreases-loop-link g l = l.fn.steps + (g.R.Rows.shape l.fn.rows).items - l.steps

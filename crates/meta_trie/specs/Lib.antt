@@ -1,0 +1,4 @@
+pub mod Trie
+pub mod Stands
+pub mod Words
+pub mod Grows

@@ -1,0 +1,20 @@
+//! The trie of the prefixes of anchors, in the rows of a table: looking a prefix up, and keeping
+//! the rows while anchors come and go.
+#![tactic(auto)]
+
+mod adds;
+mod changes;
+mod finds;
+mod free_leaves;
+mod grows;
+mod leaf_rows;
+mod links;
+mod looks;
+mod puts;
+mod starts;
+mod unlinks;
+
+pub use adds::add_anchor;
+pub use free_leaves::free_leaf;
+pub use looks::{look, look_by_hash};
+pub use starts::start;

@@ -1,0 +1,66 @@
+//! The table of the one empty anchor.
+
+ghost use Rattle.std.specs.Prelude.{◌≡◌, ◌<◌, ◌+◌, ◌∷◌, [], ℕ, length, slice_index};
+ghost use Rattle.meta_trie.specs.Stands.{StandsFor};
+ghost use Rattle.meta_trie.specs.Words.{Bare, FreeWords};
+
+use crate::links::link_item;
+use crate::puts::put;
+use key_bytes::Fnv;
+use row_words::{ItemRow, RowsMut};
+
+/// Makes the rows stand for the empty anchor with leaf 0, whatever they were. It writes each word.
+pub fn start<R: RowsMut>(rows: &mut R)
+    ensures table { StandsFor (R.shape rows.new) (R.words rows.new) (([], 0) ∷ []) }
+    ensures shape { R.shape rows.new ≡ R.shape rows.old }
+    ensures stays { R.stays rows.old rows.new }
+{
+    lay_bare(rows);
+    let root = ItemRow {
+        next: 0,
+        len: 0,
+        is_anchor: true,
+        leftmost: 0,
+        rightmost: 0,
+        bits: [0; 4],
+    };
+    let hash = Fnv::start(rows.salt());
+    link_item(rows, &[], hash, &root);
+}
+
+/// Makes all items free, and leaf 0 the only live one, with the empty anchor.
+fn lay_bare<R: RowsMut>(rows: &mut R)
+    ensures words { Bare (R.shape rows.new) (R.words rows.new) }
+    ensures shape { R.shape rows.new ≡ R.shape rows.old }
+    ensures stays { R.stays rows.old rows.new }
+{
+    clear(rows);
+    free_items(rows);
+    put(rows, 0, &[0, 0, 1, 1]);
+    let row = rows.layout().leaf_word(0);
+    put(rows, row, &[1]);
+}
+
+/// Writes 0 into each word.
+fn clear<R: RowsMut>(rows: &mut R)
+    ensures words { (x : ℕ) → slice_index (R.words rows.new) x ≡ 0 }
+    ensures shape { R.shape rows.new ≡ R.shape rows.old }
+    ensures stays { R.stays rows.old rows.new }
+{
+    for i in 0..rows.layout().word_count() {
+        rows.set_word(i, 0);
+    }
+}
+
+/// Lists all items as free, in the order of their places.
+fn free_items<R: RowsMut>(rows: &mut R)
+    requires { (x : ℕ) → slice_index (R.words rows.old) x ≡ 0 }
+    ensures words { FreeWords (R.shape rows.new) (R.words rows.new) (R.shape rows.new).items }
+    ensures shape { R.shape rows.new ≡ R.shape rows.old }
+    ensures stays { R.stays rows.old rows.new }
+{
+    let shape = rows.layout();
+    for at in 1..shape.items {
+        rows.set_word(shape.item_word(at - 1) + 1, at as u64 + 1);
+    }
+}
