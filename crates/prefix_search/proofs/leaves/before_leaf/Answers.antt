@@ -1,0 +1,31 @@
+use Rattle.std.proofs.Common.{◌≡◌, ◌-◌, ◌+◌, ℕ, List, Some, sym, ◌∙◌, subst, arith}
+use Rattle.anchor_rules.specs.Items.{leaf_before}
+use Rattle.prefix_search.specs.Search.{IsFollowed}
+use Rattle.prefix_search.proofs.Tables.{before_leaf}
+use Rattle.prefix_search.proofs.leaves.before_leaf.Goals as goal
+
+less_one : (n m : ℕ) → n ≡ m + 1 → n - 1 ≡ m
+less_one n m e = omega arith
+
+pub leaf-row-requires : goal.leaf-row-requires
+leaf-row-requires g c =
+    let l = c.requires.leaf c.requires.table.0 c.requires.table.1 in
+    (before_leaf _ _ _ _ l.0 c.requires.table.1 l.1 l.2).live
+
+pub overflow_sub-result : goal.overflow_sub-result
+overflow_sub-result g c =
+    let l = c.requires.leaf c.requires.table.0 c.requires.table.1 in
+    let b = before_leaf _ _ _ _ l.0 c.requires.table.1 l.1 l.2 in
+    omega (arith, c.leaf-row.ensures.previous ∙ b.link)
+
+pub returns-clause-leaf : goal.returns-clause-leaf
+returns-clause-leaf g c = λ A s.
+    let l = c.requires.leaf A s in
+    less_one _ _ (c.leaf-row.ensures.previous ∙ (before_leaf _ _ A _ l.0 s l.1 l.2).link)
+
+pub returns-clause-next : goal.returns-clause-next
+returns-clause-next g c = λ A s.
+    let l = c.requires.leaf A s in
+    let b = before_leaf _ _ A _ l.0 s l.1 l.2 in
+    subst (λ (n : ℕ). IsFollowed A n (Some c.leaf-row.result.anchor)) (sym (less_one _ _ (c.leaf-row.ensures.previous ∙ b.link)))
+    (subst (λ (x : List ℕ). IsFollowed A (leaf_before A c.args.leaf) (Some x)) (sym c.leaf-row.ensures.anchor) b.next)

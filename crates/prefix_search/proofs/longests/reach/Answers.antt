@@ -1,0 +1,75 @@
+use Rattle.std.proofs.Common.{◌≡◌, ◌+◌, length, ◌-◌, ◌/◌, arith, sym, ap, ◌∙◌}
+use Rattle.std.specs.Prelude.{min}
+use Rattle.key_bytes.specs.Fnv.{fnv_start}
+use Rattle.key_bytes.proofs.Hashes.{prefix_hash-nil}
+use Rattle.anchor_rules.specs.Items.{longest_anchor}
+use Rattle.anchor_rules.proofs.ItemParts.{item_closed}
+use Rattle.row_words.specs.declared.shape.Shape.{Shape}
+use Rattle.prefix_search.specs.Search.{length_digits}
+use Rattle.prefix_search.proofs.Digits.{left_half, below_digits}
+use Rattle.prefix_search.proofs.Hashing.{hash_on}
+use Rattle.prefix_search.proofs.Tables.{longest_is, none_past}
+use Rattle.prefix_search.proofs.longests.reach.Goals as goal
+
+pub look_by_hash-requires-clause-hash : goal.look_by_hash-requires-clause-hash
+look_by_hash-requires-clause-hash g c =
+    rw c.loop-low.invariant.shape
+    (hash_on _ c.loop-low.hash _ c.loop-low.low (c.loop-low.low + (c.loop-low.high - c.loop-low.low + 1) / 2) c.args.key.now (omega arith) c.loop-low.invariant.hash c.extend-further.ensures)
+
+pub loop-low-init : goal.loop-low-init
+loop-low-init g c =
+    let root = rw (c.longest-most.ensures.shape, c.longest-most.ensures.words) at c.root-item.ensures.item in
+    record {
+      words = c.root-item.ensures.words ∙ c.longest-most.ensures.words;
+      shape = c.root-item.ensures.shape ∙ c.longest-most.ensures.shape;
+      stays = g.met.R.Rows.stays_trans _ _ _ c.longest-most.ensures.stays c.root-item.ensures.stays;
+      low_high = omega arith;
+      high_key = omega (arith, c.min-high.ensures);
+      hash = c.start-hash.ensures ∙ (ap fnv_start (c.salt.ensures ∙ ap (λ (k : Shape). k.salt) c.longest-most.ensures.shape) ∙ sym (prefix_hash-nil _));
+      known = root;
+      longest = λ A s m lt le. none_past A c.args.key.now m (omega (arith, c.min-high.ensures, c.longest-most.ensures.value, longest_is _ _ A s)) le;
+      cost = λ A s most fits. record {
+        digits = length_digits A c.args.key.now;
+        narrow =
+            let high : c.min-high.result ≡ min (length c.args.key.now) (longest_anchor A) = c.min-high.ensures ∙ ap (min (length c.args.key.now)) (c.longest-most.ensures.value ∙ longest_is _ _ A s) in
+            omega (arith, high, below_digits (min (length c.args.key.now) (longest_anchor A)));
+        paid = omega (arith, c.root-item.ensures.steps);
+      };
+    }
+
+pub loop-low-preserved-in-Some : goal.loop-low-preserved-in-Some
+loop-low-preserved-in-Some g c =
+    let v = rw (c.loop-low.invariant.shape, c.loop-low.invariant.words) at c.in-Some.ensures.value in
+    let cost = rw (c.loop-low.invariant.shape, c.loop-low.invariant.words) at c.look_by_hash.ensures.cost in
+    record {
+      words = c.look_by_hash.ensures.words ∙ c.loop-low.invariant.words;
+      shape = c.look_by_hash.ensures.shape ∙ c.loop-low.invariant.shape;
+      stays = g.met.R.Rows.stays_trans _ _ _ c.loop-low.invariant.stays c.look_by_hash.ensures.stays;
+      low_high = omega arith;
+      high_key = omega arith;
+      hash = hash_on _ c.loop-low.hash _ c.loop-low.low (c.loop-low.low + (c.loop-low.high - c.loop-low.low + 1) / 2) c.args.key.now (omega arith) c.loop-low.invariant.hash c.extend-further.ensures;
+      known = λ A s. let w = v A s in (w.0, w.1, w.2);
+      longest = c.loop-low.invariant.longest;
+      cost = λ A s most fits. left_half _ _ _ _ _ _ (c.loop-low.invariant.cost A s most fits) (omega arith) (omega arith) (cost A s most fits);
+    }
+
+pub loop-low-preserved : goal.loop-low-preserved
+loop-low-preserved g c =
+    let v = rw (c.loop-low.invariant.shape, c.loop-low.invariant.words) at c.in-None.ensures.value in
+    let cost = rw (c.loop-low.invariant.shape, c.loop-low.invariant.words) at c.look_by_hash.ensures.cost in
+    record {
+      words = c.look_by_hash.ensures.words ∙ c.loop-low.invariant.words;
+      shape = c.look_by_hash.ensures.shape ∙ c.loop-low.invariant.shape;
+      stays = g.met.R.Rows.stays_trans _ _ _ c.loop-low.invariant.stays c.look_by_hash.ensures.stays;
+      low_high = omega arith;
+      high_key = omega arith;
+      hash = c.loop-low.invariant.hash;
+      known = c.loop-low.invariant.known;
+      longest = λ A s m lt le. item_closed A c.args.key.now (c.loop-low.low + (c.loop-low.high - c.loop-low.low + 1) / 2) m (omega arith) (v A s);
+      cost = λ A s most fits. left_half _ _ _ _ _ _ (c.loop-low.invariant.cost A s most fits) (omega arith) (omega arith) (cost A s most fits);
+    }
+
+pub returns-clause-longest : goal.returns-clause-longest
+returns-clause-longest g c = λ A s.
+    let k = c.loop-low.invariant.known A s in
+    (k.0, record { within = omega arith; known = k.1; none_longer = λ m lt le. c.loop-low.invariant.longest A s m (omega arith) le }, k.2)

@@ -1,0 +1,20 @@
+//! What a search answers.
+
+use row_words::{AnchorWords, ItemRow};
+
+/// The longest prefix of a key that has an item.
+#[derive(Debug, Clone, Copy)]
+pub struct Longest {
+    /// Its length in bytes.
+    pub len: u32,
+    pub item: ItemRow,
+}
+
+/// Where a key belongs.
+#[derive(Debug, Drop)]
+pub struct Located {
+    /// The leaf of the greatest anchor that isn't above the key.
+    pub leaf: u32,
+    /// The anchor of the leaf after it, None for the last leaf. The key is below it.
+    pub next: Option<AnchorWords>,
+}

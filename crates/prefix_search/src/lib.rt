@@ -1,0 +1,14 @@
+//! Searching the rows of a table for a key: the longest prefix of the key that has an item, by
+//! binary search on its length, and from there the leaf whose span has the key.
+#![tactic(auto)]
+
+mod answers;
+mod bits;
+mod leaves;
+mod locates;
+mod longests;
+mod roots;
+
+pub use answers::{Located, Longest};
+pub use locates::locate;
+pub use longests::longest;

@@ -1,0 +1,77 @@
+//! The longest prefix of a key that has an item.
+
+ghost use Rattle.std.specs.Prelude.{◌≡◌, ◌≤◌, ◌+◌, ◌*◌, ℕ, length, take};
+ghost use Rattle.key_bytes.specs.Fnv.{prefix_hash};
+ghost use Rattle.anchor_rules.specs.Anchors.{Anchors};
+ghost use Rattle.meta_trie.specs.Stands.{StandsFor, IsTable, MostInBucket};
+ghost use Rattle.prefix_search.specs.Search.{IsLongestOf, length_digits};
+
+use crate::answers::Longest;
+use crate::roots::root;
+use key_bytes::{Fnv, Key};
+use meta_trie::look_by_hash;
+use row_words::{ItemRow, Rows};
+use std::sync::ledger::Ledger;
+use steps::Steps;
+
+/// A prefix of a key that has an item: its length, its hash and the item.
+#[derive(Debug, Clone, Copy)]
+pub(crate) struct Reached {
+    pub len: usize,
+    pub hash: u64,
+    pub item: ItemRow,
+}
+
+/// The longest prefix of the key that has an item, and its item.
+///
+/// This is a binary search on the length, which hashes on from the longest prefix known so far. It
+/// takes one step for the empty prefix and a look for each binary digit of the length.
+pub fn longest<R: Rows, L: Ledger>(rows: &mut R, key: &Key, steps: &mut Steps<L>) -> Longest
+    requires { IsTable (R.shape rows.old) (R.words rows.old) }
+    ensures longest { (A : Anchors) → StandsFor (R.shape rows.old) (R.words rows.old) A → IsLongestOf A key.now result.len result.item }
+    ensures cost { (A : Anchors) → StandsFor (R.shape rows.old) (R.words rows.old) A → (c : ℕ) → MostInBucket (R.shape rows.old) A c → steps.new ≤ steps.old + (length_digits A key.now * c + 1) }
+    ensures words { R.words rows.new ≡ R.words rows.old }
+    ensures shape { R.shape rows.new ≡ R.shape rows.old }
+    ensures stays { R.stays rows.old rows.new }
+{
+    let reached = reach(rows, key.bytes(), steps);
+    Longest {
+        len: reached.len as u32,
+        item: reached.item,
+    }
+}
+
+/// [`longest`] for these bytes, with the hash of the prefix.
+pub(crate) fn reach<R: Rows, L: Ledger>(rows: &mut R, key: &[u8], steps: &mut Steps<L>) -> Reached
+    requires { IsTable (R.shape rows.old) (R.words rows.old) }
+    ensures within { result.len ≤ length key.now }
+    ensures hash { result.hash ≡ prefix_hash (R.shape rows.old).salt (take result.len key.now) }
+    ensures longest { (A : Anchors) → StandsFor (R.shape rows.old) (R.words rows.old) A → IsLongestOf A key.now result.len result.item }
+    ensures cost { (A : Anchors) → StandsFor (R.shape rows.old) (R.words rows.old) A → (c : ℕ) → MostInBucket (R.shape rows.old) A c → steps.new ≤ steps.old + (length_digits A key.now * c + 1) }
+    ensures words { R.words rows.new ≡ R.words rows.old }
+    ensures shape { R.shape rows.new ≡ R.shape rows.old }
+    ensures stays { R.stays rows.old rows.new }
+{
+    let most = rows.longest() as usize;
+    let mut high = key.len().min(most);
+    let mut low = 0;
+    let mut hash = Fnv::start(rows.salt());
+    let mut item = root(rows, steps);
+    while low < high {
+        let middle = low + (high - low + 1) / 2;
+        let further = Fnv::extend(hash, &key[low..middle]);
+        match look_by_hash(rows, &key[..middle], further, steps) {
+            Some(found) => {
+                low = middle;
+                hash = further;
+                item = found;
+            }
+            None => high = middle - 1,
+        }
+    }
+    Reached {
+        len: low,
+        hash,
+        item,
+    }
+}
