@@ -1,11 +1,11 @@
 -- Binary digits, and a search by halves.
 use Rattle.std.proofs.Common.{◌≡◌, ℕ, ◌+◌, ◌*◌, ◌/◌, ◌^◌, ◌<◌, ◌≤◌, inl, inr, Bool, true, false, cond, zero, suc, refl, ap, arith}
-use Rattle.std.specs.Prelude.{nat_le}
+use Rattle.std.specs.Prelude.{nat_le, codes, [], ◌∷◌}
 use Rattle.std.proofs.Math.Nat.{pow-suc}
 use Rattle.std.proofs.lemmas.Nat.{pow_pos, pow_below}
 use Rattle.std.proofs.lemmas.Bool.{cases_order}
 use Rattle.std.proofs.lemmas.Bool.Decides.{nat_tests}
-use Rattle.prefix_search.specs.Search.{digits}
+use Rattle.prefix_search.specs.Search.{digits, bound}
 
 le_true : (m n : ℕ) → nat_le m n ≡ true → m ≤ n
 le_true m n h = grind (arith, nat_tests)
@@ -52,3 +52,8 @@ half_of (suc n) width steps most c width' steps' narrow paid some half cost =
 -- a look that costs at most c halves the width
 pub left_half : (width steps most c width' steps' : ℕ) → Left width steps most c → 0 < width → width' ≤ width / 2 → steps' ≤ steps + c → Left width' steps' most c
 left_half width steps most c width' steps' l some half cost = half_of l.digits width steps most c width' steps' l.narrow l.paid some half cost
+
+-- the bound for the key `Josephine` among the empty anchor, `Jo` and `Jos`
+pub worked_bound : (c : ℕ) → bound (([], 0) ∷ (codes "Jo", 1) ∷ (codes "Jos", 2) ∷ []) (codes "Josephine") c ≡ 3 * c + 4
+unfolding digits
+worked_bound c = refl

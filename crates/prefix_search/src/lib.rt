@@ -8,6 +8,8 @@ mod leaves;
 mod locates;
 mod longests;
 mod roots;
+#[cfg(test)]
+mod tests;
 
 pub use answers::{Located, Longest};
 pub use locates::locate;
