@@ -76,7 +76,7 @@ split_else (x ∷ xs) l a r i nl nr = dite (ℕ_discrete x.1 l)
     (λ ne. ap (λ A. span A i) (split_later x xs l a r ne)
     ∙ (λ c. cond (eqb x.1 i) (Some (x.0, next_split xs l a r c)) (split_else xs l a r i nl nr c)))
 
-all_split : (P : List ℕ × ℕ → Type 0) (xs : Anchors) (l : ℕ) (a : List ℕ) (r : ℕ) → AllByRecursion P xs → P (a, r) → AllByRecursion P (with_split xs l a r)
+pub all_split : (P : List ℕ × ℕ → Type 0) (xs : Anchors) (l : ℕ) (a : List ℕ) (r : ℕ) → AllByRecursion P xs → P (a, r) → AllByRecursion P (with_split xs l a r)
 all_split P [] l a r all p = tt
 all_split P (x ∷ xs) l a r all p = elim (eqb x.1 l) as (λ b. AllByRecursion P (cond b (x ∷ (a, r) ∷ xs) (x ∷ with_split xs l a r))) [ true ↦ (all.0, (p, all.1)) | false ↦ (all.0, all_split P xs l a r all.1 p) ]
 
@@ -176,7 +176,7 @@ module _ (l r : ℕ) (apart : l ≢ r) (lo mid : List ℕ) (hi : Option (List �
       (λ xr. ap (λ A. span A i) (merge_here x xs r xr) ∙ e')
       (λ ne. ap (λ A. span A i) (merge_later x xs r ne) ∙ (span_later x (with_merge xs r) i ni ∙ merge_none xs i e'))
 
-  all_merge : (P : List ℕ × ℕ → Type 0) (xs : Anchors) → AllByRecursion P xs → AllByRecursion P (with_merge xs r)
+  pub all_merge : (P : List ℕ × ℕ → Type 0) (xs : Anchors) → AllByRecursion P xs → AllByRecursion P (with_merge xs r)
   all_merge P [] all = tt
   all_merge P (x ∷ xs) all = elim (eqb x.1 r) as (λ b. AllByRecursion P (cond b xs (x ∷ with_merge xs r))) [ true ↦ all.1 | false ↦ (all.0, all_merge P xs all.1) ]
 

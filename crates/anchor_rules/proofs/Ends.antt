@@ -1,21 +1,16 @@
 -- A search by the longest prefix that has an item ends at the target.
-use Rattle.std.proofs.Common.{◌≡◌, ◌≢◌, ℕ, ◌+◌, ◌-◌, ◌<◌, ◌≤◌, ◌⊎◌, inl, inr, List, [], ◌∷◌, ◌++◌, length, take, drop, Bool, true, false, cond, zero, suc, Option, Some, None, refl, sym, ap, ◌∙◌, subst, arith, append_assoc, eq-eqb, ne_eqb, take-append-drop}
-use Rattle.std.specs.Prelude.{◌||◌, ◌==◌}
-use Rattle.std.specs.List.{AllByRecursion, filter, list_any}
+use Rattle.std.proofs.Common.{◌≡◌, ℕ, ◌<◌, ◌≤◌, ◌⊎◌, inl, inr, List, [], ◌∷◌, ◌++◌, length, take, drop, Bool, true, false, cond, zero, suc, Option, Some, None, refl, sym, ap, ◌∙◌, subst, arith, append_assoc, eq-eqb, ne_eqb, take-append-drop}
+use Rattle.std.specs.List.{AllByRecursion, list_any}
 use mathlib.Core.Bool.{false≢true}
-use mathlib.Core.Logic.{dite}
-use native.Mathlib.Decide.{ℕ_discrete}
 use Rattle.std.proofs.lemmas.Bool.{cases_order}
 use Rattle.std.proofs.lemmas.List.{append-nil}
-use Rattle.std.proofs.lemmas.List.Elements.{filter-append}
-use Rattle.std.proofs.lemmas.List.Folds.{list_any-append}
 use Rattle.key_bytes.specs.Order.{is_below, is_same}
-use Rattle.key_bytes.proofs.Orders.{below_trans, below_not_back, not_below_empty, not_below_itself, same_is, same_itself}
-use Rattle.anchor_rules.specs.Anchors.{Anchors, span, next_anchor, target_from, target, Rises, AreAnchors}
-use Rattle.anchor_rules.specs.Items.{Item, begins, under, is_prefix, is_anchor_of, first_leaf, last_leaf, item, IsLongest, leaf_before, greatest_below, child_below, end_by, ends_at}
+use Rattle.key_bytes.proofs.Orders.{below_trans, below_not_back, not_below_itself, same_is, same_itself}
+use Rattle.anchor_rules.specs.Anchors.{Anchors, next_anchor, target_from, target, Rises, AreAnchors}
+use Rattle.anchor_rules.specs.Items.{Item, begins, under, is_prefix, is_anchor_of, first_leaf, last_leaf, item, IsLongest, leaf_before, greatest_below, end_by, ends_at}
 use Rattle.anchor_rules.proofs.Prefixes.{heads_less, heads_more, below_after, below_longer, not_below_prefix, begins_is, begins_longer, not_same_not_begun, past_prefix, ahead_prefix}
 use Rattle.anchor_rules.proofs.Spans.{all_weaker}
-use Rattle.anchor_rules.proofs.ItemParts.{all_parts, all_both, rises_back, or_none, none_any, any_here, any_only, IsItem, item_is, no_item, FirstOf, LastOf, first_of, last_of, leaf_apart}
+use Rattle.anchor_rules.proofs.ItemParts.{all_parts, all_both, rises_back, or_none, any_here, any_only, IsItem, item_is, no_item, FirstOf, LastOf, first_of, last_of, leaf_apart}
 
 -- the byte is above what comes next in the key, where something comes
 abbrev pub Above : List ℕ → ℕ → Type 0

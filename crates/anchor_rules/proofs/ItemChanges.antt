@@ -1,7 +1,7 @@
 -- The items after an anchor was put in, and after one was taken out.
-use Rattle.std.proofs.Common.{◌≡◌, ◌≢◌, ℕ, ◌+◌, ◌-◌, ◌<◌, ◌≤◌, ◌⊎◌, inl, inr, List, [], ◌∷◌, ◌++◌, length, take, drop, Bool, true, false, cond, zero, suc, Option, Some, None, refl, sym, ap, ◌∙◌, subst, arith, append_assoc, eq-eqb, ne_eqb, true≢false}
-use Rattle.std.specs.Prelude.{◌||◌, ◌&&◌, ◌==◌, not, max, nat_le, if◌then◌else◌}
-use Rattle.std.specs.List.{AllByRecursion, filter, list_any}
+use Rattle.std.proofs.Common.{◌≡◌, ◌≢◌, ℕ, ◌≤◌, List, [], ◌∷◌, ◌++◌, length, take, Bool, true, false, cond, Option, Some, None, refl, sym, ap, ◌∙◌, subst, arith, append_assoc, eq-eqb, ne_eqb, true≢false}
+use Rattle.std.specs.Prelude.{◌||◌, ◌&&◌, not, max, nat_le, if◌then◌else◌}
+use Rattle.std.specs.List.{AllByRecursion, filter}
 use mathlib.Core.Bool.{false≢true}
 use mathlib.Core.Logic.{dite}
 use native.Mathlib.Decide.{ℕ_discrete}
@@ -11,9 +11,9 @@ use Rattle.key_bytes.specs.Common.{lcp}
 use Rattle.key_bytes.specs.Order.{is_below, is_same}
 use Rattle.key_bytes.proofs.Orders.{below_trans, below_not_same, below_not_same_back, not_below_itself, same_is}
 use Rattle.anchor_rules.specs.Anchors.{Anchors, Span, is_before, in_span, span, next_anchor, Rises, AreAnchors, with_split, with_merge}
-use Rattle.anchor_rules.specs.Items.{Item, begins, begins_end, under, is_prefix, is_anchor_of, first_leaf, last_leaf, item, leaf_before, leaf_after, shared}
+use Rattle.anchor_rules.specs.Items.{Item, begins, begins_end, under, is_prefix, is_anchor_of, first_leaf, last_leaf, item, leaf_after, shared}
 use Rattle.anchor_rules.proofs.Prefixes.{begins_take, begins_take_lcp, lcp_sym}
-use Rattle.anchor_rules.proofs.ItemParts.{all_parts, rises_back, or_none, any_only, none_any, filter_none, filter_first, filter_drop, IsItem, item_is, no_item, some_item, item-none, leaf_apart, span_at}
+use Rattle.anchor_rules.proofs.ItemParts.{all_parts, rises_back, any_only, filter_none, filter_first, filter_drop, IsItem, item_is, some_item, item-none, leaf_apart, span_at}
 use Rattle.anchor_rules.proofs.ItemsAround.{last_leaf-back, item_other, prefix_old, item_known, item_new, none_front, none_back}
 use Rattle.anchor_rules.proofs.Spans.{all_weaker, span_here, span_later, disjoint}
 

@@ -1,12 +1,11 @@
 -- What an item tells of the anchors, and which prefixes have one.
-use Rattle.std.proofs.Common.{◌≡◌, ◌≢◌, ℕ, ◌+◌, ◌-◌, ◌<◌, ◌≤◌, ◌⊎◌, inl, inr, List, [], ◌∷◌, ◌++◌, length, take, drop, Bool, true, false, cond, zero, suc, Option, Some, None, refl, sym, ap, ◌∙◌, subst, arith, append_assoc, length-append, true≢false}
-use Rattle.std.specs.Prelude.{◌||◌, ◌==◌, max}
+use Rattle.std.proofs.Common.{◌≡◌, ◌≢◌, ℕ, ◌<◌, ◌≤◌, List, [], ◌∷◌, ◌++◌, length, take, Bool, true, false, cond, zero, suc, Some, None, refl, sym, ap, ◌∙◌, subst, arith, length-append, true≢false}
+use Rattle.std.specs.Prelude.{◌||◌, ◌==◌}
 use Rattle.std.specs.List.{AllByRecursion, filter, list_any}
 use mathlib.Core.Bool.{false≢true}
-use Rattle.key_bytes.specs.Order.{is_below, is_same}
 use Rattle.anchor_rules.specs.Anchors.{Anchors, Span, span, next_anchor, Rises, AreAnchors}
 use Rattle.anchor_rules.specs.Items.{Item, begins, under, is_prefix, is_anchor_of, first_leaf, last_leaf, item, longest_anchor}
-use Rattle.anchor_rules.proofs.Prefixes.{begins_is, begins_longer, begins_shorter}
+use Rattle.anchor_rules.proofs.Prefixes.{begins_is, begins_shorter}
 use Rattle.anchor_rules.proofs.Spans.{span_here, span_later, no_span}
 
 -- what holds of each element of a list

@@ -1,18 +1,15 @@
 -- The items of anchors with one more between two of them.
-use Rattle.std.proofs.Common.{◌≡◌, ◌≢◌, ℕ, ◌+◌, ◌-◌, ◌<◌, ◌≤◌, ◌⊎◌, inl, inr, List, [], ◌∷◌, ◌++◌, length, take, drop, Bool, true, false, cond, zero, suc, Option, Some, None, refl, sym, ap, ◌∙◌, subst, arith, append_assoc, eq-eqb, ne_eqb, true≢false}
-use Rattle.std.specs.Prelude.{◌||◌, ◌&&◌, ◌==◌, not, max, nat_le, if◌then◌else◌}
+use Rattle.std.proofs.Common.{◌≡◌, ℕ, List, [], ◌∷◌, ◌++◌, Bool, true, false, cond, Option, Some, None, refl, sym, ap, ◌∙◌, append_assoc}
+use Rattle.std.specs.Prelude.{◌||◌, if◌then◌else◌}
 use Rattle.std.specs.List.{AllByRecursion, filter, list_any}
 use mathlib.Core.Bool.{false≢true}
-use mathlib.Core.Logic.{dite}
-use native.Mathlib.Decide.{ℕ_discrete}
 use Rattle.std.proofs.lemmas.List.Elements.{filter-append}
-use Rattle.key_bytes.specs.Common.{lcp}
 use Rattle.key_bytes.specs.Order.{is_below, is_same}
-use Rattle.anchor_rules.specs.Anchors.{Anchors, is_before, span, next_anchor, Rises, AreAnchors, with_split, with_merge}
-use Rattle.anchor_rules.specs.Items.{Item, begins, begins_end, under, is_prefix, is_anchor_of, first_leaf, last_leaf, item, leaf_before, leaf_after}
+use Rattle.anchor_rules.specs.Anchors.{Anchors, is_before, next_anchor, Rises}
+use Rattle.anchor_rules.specs.Items.{Item, begins, begins_end, under, is_prefix, is_anchor_of, first_leaf, last_leaf, item}
 use Rattle.anchor_rules.proofs.Prefixes.{begins_between, begins_not_longer, not_same_not_begun}
-use Rattle.anchor_rules.proofs.ItemParts.{all_parts, rises_back, or_none, any_none, none_any, any_here, filter_none, filter_first, filter_drop, IsItem, item_is, no_item, some_item, item-none, leaf_apart, span_at}
-use Rattle.anchor_rules.proofs.Spans.{all_weaker, span_here, span_later}
+use Rattle.anchor_rules.proofs.ItemParts.{or_none, any_none, none_any, any_here, filter_none, filter_first, filter_drop, item_is, no_item}
+use Rattle.anchor_rules.proofs.Spans.{all_weaker}
 
 -- an item made of its parts
 abbrev item_from : Bool → Bool → ℕ → ℕ → (ℕ → Bool) → Option Item

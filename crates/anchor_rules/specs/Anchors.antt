@@ -1,5 +1,5 @@
 -- Anchors with their leaves, and the spans of keys between them.
-use Rattle.std.specs.Prelude.{◌≡◌, ℕ, List, [], ◌∷◌, Bool, true, false, not, ◌&&◌, ◌||◌, ◌==◌, if◌then◌else◌, Option, Some, None, is_some, slice_index_or}
+use Rattle.std.specs.Prelude.{◌≡◌, ℕ, ◌<◌, List, [], ◌∷◌, length, Bool, true, false, not, ◌&&◌, ◌||◌, ◌==◌, if◌then◌else◌, Option, Some, None, is_some, slice_index_or}
 use Rattle.std.specs.List.{AllByRecursion}
 use Rattle.key_bytes.specs.Order.{is_below}
 
@@ -58,6 +58,10 @@ Rises (x ∷ xs) = AllByRecursion (λ (y : List ℕ × ℕ). is_below x.0 y.0 �
 pub record AreAnchors (A : Anchors) : Type 0 where
   pub first : next_anchor A ≡ Some []
   pub rises : Rises A
+
+-- no anchor is longer than a key may be
+abbrev pub AreShort : Anchors → Type 0
+AreShort A = AllByRecursion (λ (x : List ℕ × ℕ). length x.0 < 256) A
 
 -- no key is in the spans of two leaves
 abbrev pub Disjoint : Anchors → Type 0

@@ -2,7 +2,7 @@
 ghost use Rattle.std.specs.Prelude.{ℕ, ◌≡◌, ◌+◌, ◌<◌, [], ◌∷◌, Some, true, length, drop, is_some, IfSome, IfOk, OnOk, OnErr};
 ghost use Rattle.std.specs.Option.{option_copied};
 ghost use Rattle.anchor_rules.specs.Anchors as anchors;
-ghost use Rattle.anchor_rules.specs.Anchors.{AreAnchors, Span, anchor_at, leaf_at, has_leaf, in_span};
+ghost use Rattle.anchor_rules.specs.Anchors.{AreAnchors, AreShort, Span, anchor_at, leaf_at, has_leaf, in_span};
 ghost use Rattle.anchor_rules.specs.Closing.{is_closed};
 ghost use Rattle.anchor_rules.specs.Places.{place_in, is_next, IsEndFor};
 
@@ -20,13 +20,13 @@ pub struct Anchors {
 
 impl Model for Anchors {
     ghost use Rattle.std.specs.Prelude.{List, ℕ};
-    ghost use Rattle.anchor_rules.specs.Anchors.{AreAnchors};
+    ghost use Rattle.anchor_rules.specs.Anchors.{AreAnchors, AreShort};
 
     ghost Value = { List (List ℕ × ℕ) };
 
     ghost view = { λ a. a.rows.items };
 
-    ghost invariant = { λ a. AreAnchors a.rows.items };
+    ghost invariant = { λ a. AreAnchors a.rows.items × AreShort a.rows.items };
 }
 
 impl Anchors {
@@ -43,6 +43,7 @@ impl Anchors {
     pub fn len(&self) -> usize
         ensures len { result ≡ length self.now }
         ensures anchors { AreAnchors self.now }
+        ensures short { AreShort self.now }
     {
         self.rows.len()
     }
@@ -115,6 +116,7 @@ impl Anchors {
         ensures split { OnOk result (self.new ≡ anchors.with_split self.old leaf anchor new_leaf) }
         ensures refused { OnErr result (self.new ≡ self.old) }
     {
+        prove!(anchor.bytes().len() < 256);
         match place_of(&self.rows, leaf) {
             Some(i) => {
                 let row = (Bytes::of(anchor.into_bytes()), new_leaf);

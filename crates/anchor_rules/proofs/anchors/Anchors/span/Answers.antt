@@ -20,5 +20,5 @@ returns c =
     let here = pair_at c.args.self.now c.in-Some.i c.index.result.now at.0 (c.index.ensures ∙ ap (λ A. get_or A c.in-Some.i c.index.result.now) c.self.view_is) in
     let anchor : c.get.result.now ≡ anchor_at c.args.self.now c.in-Some.i = c.get.ensures ∙ here.0 in
     let next : option_copied c.next_anchor.result ≡ next_anchor (drop (c.in-Some.i + 1) c.args.self.now) = c.next_anchor.ensures ∙ ap (λ A. next_anchor (drop (c.in-Some.i + 1) A)) f in
-    span_found c.args.self.now c.args.leaf c.in-Some.i (subst AreAnchors c.self.view_is c.self.invariant) found
+    span_found c.args.self.now c.args.leaf c.in-Some.i (subst AreAnchors c.self.view_is c.self.invariant.0) found
     ∙ (ap (λ a. Some (a, next_anchor (drop (c.in-Some.i + 1) c.args.self.now))) (sym anchor) ∙ ap (λ n. Some (c.get.result.now, n)) (sym next))
