@@ -1,2 +1,4 @@
+pub mod Digits
 pub mod Packed
+pub mod Beginnings
 pub mod ItemNames

@@ -23,8 +23,8 @@ too_short words from n bs l e = let a = length-take (length bs) (bytes_from word
 pub bytes_same : (ws vs : List ℕ) (from at n : ℕ) → ((j : ℕ) → j < n → byte_at ws from j ≡ byte_at vs at j) → bytes_from ws from n ≡ bytes_from vs at n
 bytes_same ws vs from at n h = fill_by_all (byte_at vs at) (bytes_from ws from n) n 0 (length-bytes ws from n) (λ k l. get_or-map-range_with_len (byte_at ws from) 0 n k k 0 l (omega arith) ∙ h k l)
 
-pub row_bytes : (packed ws : List ℕ) (base n : ℕ) → n ≤ 256 → ((j : ℕ) → j < 32 → get_or packed j 0 ≡ get_or ws (base + j) 0) → bytes_from packed 0 n ≡ bytes_from ws base n
-row_bytes packed ws base n small h = bytes_same packed ws 0 base n (λ j l.
+pub row_bytes : (packed ws : List ℕ) (base n : ℕ) → ((j : ℕ) → j < (n + 7) / 8 → get_or packed j 0 ≡ get_or ws (base + j) 0) → bytes_from packed 0 n ≡ bytes_from ws base n
+row_bytes packed ws base n h = bytes_same packed ws 0 base n (λ j l.
     let z : get_or packed (0 + j / 8) 0 ≡ get_or ws (base + j / 8) 0 = ap (λ (i : ℕ). get_or packed i 0) (zero-add (j / 8)) ∙ h (j / 8) (omega arith) in
     ap (λ (w : ℕ). w / 2 ^ (8 * (j % 8)) % 256) z)
 
@@ -32,8 +32,8 @@ pub filled_more : (xs ys : List ℕ) (base i v : ℕ) → i < length xs → ((j 
 filled_more xs ys base i v l below here = below_more (λ (j : ℕ). get_or (set xs i v) j 0 ≡ get_or ys (base + j) 0) i (λ j h. let ne : j ≢ i = omega arith in get_or-set_other xs i j v 0 ne ∙ below j h) (get_or-set_same xs i v 0 l ∙ here)
 
 -- bytes that were packed eight to a word are there again
-pub bytes_packed : (words bs : List ℕ) → length bs < 256 → ((i : ℕ) → i < 32 → (j : ℕ) → j < 8 → get_or words i 0 / 2 ^ (8 * j) % 256 ≡ get_or bs (8 * i + j) 0) → bytes_from words 0 (length bs) ≡ bs
-bytes_packed words bs short h = bytes_is words 0 bs (λ j l.
+pub bytes_packed : (words bs : List ℕ) → ((i : ℕ) → i < (length bs + 7) / 8 → (j : ℕ) → j < 8 → get_or words i 0 / 2 ^ (8 * j) % 256 ≡ get_or bs (8 * i + j) 0) → bytes_from words 0 (length bs) ≡ bs
+bytes_packed words bs h = bytes_is words 0 bs (λ j l.
     ap (λ (i : ℕ). get_or words i 0 / 2 ^ (8 * (j % 8)) % 256) (zero-add (j / 8))
     ∙ h (j / 8) (omega arith) (j % 8) (omega arith)
     ∙ ap (λ (i : ℕ). get_or bs i 0) (omega arith))

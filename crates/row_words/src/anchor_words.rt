@@ -1,6 +1,6 @@
 //! Bytes of anchors, packed into words.
 
-ghost use Rattle.std.specs.Prelude.{◌≡◌, ◌<◌, ◌+◌, ◌*◌, ◌/◌, ◌%◌, ◌^◌, ◌==◌, ℕ, length, slice_index, IfOk};
+ghost use Rattle.std.specs.Prelude.{◌≡◌, ◌<◌, ◌≤◌, ◌+◌, ◌*◌, ◌/◌, ◌%◌, ◌^◌, ◌==◌, ℕ, length, slice_index, IfOk};
 
 use std::alloc::{AllocError, Global};
 use std::marker::Model;
@@ -31,7 +31,7 @@ impl AnchorWords {
         ensures { result ≡ bytes.now }
     {
         let mut words = [0; 32];
-        for i in 0..32 {
+        for i in 0..(bytes.len() + 7) / 8 {
             words[i] = packed_word(bytes, i);
         }
         AnchorWords {
@@ -80,9 +80,38 @@ pub fn packed_word(bytes: &[u8], i: usize) -> u64
     requires { i < 2 ^ 32 }
     ensures { (j : ℕ) → j < 8 → result / 2 ^ (8 * j) % 256 ≡ slice_index bytes.now (8 * i + j) }
 {
+    if i < bytes.len() / 8 {
+        return whole_word(bytes, 8 * i);
+    }
     let low = four(bytes, 8 * i);
     let high = four(bytes, 8 * i + 4);
     low as u64 + high as u64 * 4_294_967_296
+}
+
+/// The eight bytes from a place on, the first one lowest. There are as many, so no byte is asked
+/// for by itself: the machine reads one word.
+pub(crate) fn whole_word(bytes: &[u8], from: usize) -> u64
+    requires { from + 8 ≤ length bytes.now }
+    ensures { (j : ℕ) → j < 8 → result / 2 ^ (8 * j) % 256 ≡ slice_index bytes.now (from + j) }
+{
+    let low = whole_four(bytes, from);
+    let high = whole_four(bytes, from + 4);
+    low as u64 + high as u64 * 4_294_967_296
+}
+
+/// The four bytes from a place on, the first one lowest.
+fn whole_four(bytes: &[u8], from: usize) -> u32
+    requires { from + 4 ≤ length bytes.now }
+    ensures first { result % 256 ≡ slice_index bytes.now from }
+    ensures second { result / 256 % 256 ≡ slice_index bytes.now (from + 1) }
+    ensures third { result / 65536 % 256 ≡ slice_index bytes.now (from + 2) }
+    ensures fourth { result / 16777216 ≡ slice_index bytes.now (from + 3) }
+{
+    let first = bytes[from] as u32;
+    let second = bytes[from + 1] as u32;
+    let third = bytes[from + 2] as u32;
+    let fourth = bytes[from + 3] as u32;
+    first + second * 256 + third * 65_536 + fourth * 16_777_216
 }
 
 /// The four bytes from a place on, the first one lowest, with 0 for each that is past the end.

@@ -29,15 +29,14 @@ pub fn leaf_words<W: Words, L: Ledger>(
     steps.tick();
     let row = shape.leaf_word(at);
     let mark = words.load(row);
+    let len = (mark - 1) as u32;
     let mut packed = [0; 32];
-    for j in 0..32 {
+    // The words behind the anchor's last byte aren't looked at.
+    for j in 0..(len + 7) / 8 {
         packed[j as usize] = words.load(row + 1 + j);
     }
     LeafRow {
-        anchor: AnchorWords {
-            len: (mark - 1) as u32,
-            words: packed,
-        },
+        anchor: AnchorWords { len, words: packed },
         previous: (words.load(row + 33) % 4_294_967_296) as u32,
         next: (words.load(row + 34) % 4_294_967_296) as u32,
     }

@@ -1,7 +1,9 @@
 //! Words that can be read, wherever they lie.
 
-ghost use Rattle.std.specs.Prelude.{◌≡◌, ◌<◌, ◌≤◌, ◌+◌, ◌/◌, ◌↔◌, IsTrue, length, slice_index};
-ghost use Rattle.row_words.specs.Bytes.{byte_at, bytes_from};
+ghost use Rattle.std.specs.Prelude.{◌≡◌, ◌<◌, ◌≤◌, ◌+◌, ◌*◌, ◌/◌, ◌%◌, ◌^◌, ◌↔◌, ℕ, IsTrue, length, slice_index};
+ghost use Rattle.row_words.specs.Bytes.{bytes_from};
+
+use crate::anchor_words::whole_word;
 
 /// Words that can be read one by one. Who has them has the two looks of a reader of rows:
 /// [`crate::probe_words`] and [`crate::leaf_words`]. No call changes a word, and each tells what `stays`.
@@ -25,19 +27,8 @@ pub trait Words {
     ghost stays_trans: { (a b c : Self) → stays a b → stays b c → stays a c };
 }
 
-/// Byte j of the words from a place on.
-fn byte<W: Words>(words: &mut W, from: u32, j: u32) -> u8
-    requires room { from + j / 8 < length (W.words words.old) }
-    requires small { from + j < 4294967296 }
-    ensures value { result ≡ byte_at (W.words words.old) from j }
-    ensures words { W.words words.new ≡ W.words words.old }
-    ensures stays { W.stays words.old words.new }
-{
-    let word = words.load(from + j / 8);
-    ((word >> (8 * (j % 8))) & 0xff) as u8
-}
-
-/// Whether the bytes of the words from a place on begin with these.
+/// Whether the bytes of the words from a place on begin with these. Eight bytes are compared at a
+/// time, as one word.
 pub(crate) fn begins<W: Words>(words: &mut W, from: u32, bytes: &[u8]) -> bool
     requires room { from + 32 ≤ length (W.words words.old) }
     requires small { from + 256 < 4294967296 }
@@ -46,8 +37,23 @@ pub(crate) fn begins<W: Words>(words: &mut W, from: u32, bytes: &[u8]) -> bool
     ensures words { W.words words.new ≡ W.words words.old }
     ensures stays { W.stays words.old words.new }
 {
+    let whole = bytes.len() / 8;
+    for i in 0..whole {
+        if words.load(from + i as u32) != whole_word(bytes, 8 * i) {
+            return false;
+        }
+    }
+    let last = words.load(from + whole as u32);
+    word_begins(last, &bytes[8 * whole..])
+}
+
+/// Whether the bytes of a word begin with these, which are fewer.
+fn word_begins(word: u64, bytes: &[u8]) -> bool
+    requires { length bytes.now < 8 }
+    ensures { IsTrue result ↔ ((j : ℕ) → j < length bytes.now → word / 2 ^ (8 * j) % 256 ≡ slice_index bytes.now j) }
+{
     for (j, x) in bytes.iter().enumerate() {
-        if byte(words, from, j as u32) != *x {
+        if ((word >> (8 * j as u32)) & 0xff) as u8 != *x {
             return false;
         }
     }
