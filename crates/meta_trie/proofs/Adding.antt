@@ -80,12 +80,12 @@ fresh_tail lo a (r ∷ back) p q =
     counted (lcp lo a) (lcp a r.0) (length a) (length r.0) (fresh_count r.0 back) (omega (arith, u, us)) v (omega (arith, w, ws))
     ∙ ap (λ (x : ℕ). ((length r.0 - x) + fresh_count r.0 back) + (length a - max (lcp lo a) (lcp a r.0))) (sym (lcp_between lo a r.0 p q))
 
-fresh-split : (front : Anchors) (b lo : List ℕ) (left : ℕ) (a : List ℕ) (leaf : ℕ) (back : Anchors) → is_below lo a ≡ true → is_before (next_anchor back) a ≡ true → fresh_count b (front ++ (lo, left) ∷ (a, leaf) ∷ back) ≡ fresh_count b (front ++ (lo, left) ∷ back) + (length a - shared lo a (next_anchor back))
+pub fresh-split : (front : Anchors) (b lo : List ℕ) (left : ℕ) (a : List ℕ) (leaf : ℕ) (back : Anchors) → is_below lo a ≡ true → is_before (next_anchor back) a ≡ true → fresh_count b (front ++ (lo, left) ∷ (a, leaf) ∷ back) ≡ fresh_count b (front ++ (lo, left) ∷ back) + (length a - shared lo a (next_anchor back))
 fresh-split [] b lo left a leaf back p q = let e = fresh_tail lo a back p q in omega (arith, e)
 fresh-split (r ∷ front) b lo left a leaf back p q = let e = fresh-split front r.0 lo left a leaf back p q in omega (arith, e)
 
 -- the next row's link
-link_of : (front : Anchors) (k : Shape) (ws : List ℕ) (previous : ℕ) (lo : List ℕ) (left : ℕ) (back : Anchors) → LeafChain k ws previous (front ++ (lo, left) ∷ back) → IsLive k ws left × (anchor_at k ws left ≡ lo) × (next_at k ws left ≡ first_link back) × LeafChain k ws (left + 1) back
+pub link_of : (front : Anchors) (k : Shape) (ws : List ℕ) (previous : ℕ) (lo : List ℕ) (left : ℕ) (back : Anchors) → LeafChain k ws previous (front ++ (lo, left) ∷ back) → IsLive k ws left × (anchor_at k ws left ≡ lo) × (next_at k ws left ≡ first_link back) × LeafChain k ws (left + 1) back
 link_of [] k ws previous lo left back c = (c.0, c.1, c.3, c.4)
 link_of (q ∷ front) k ws previous lo left back c = link_of front k ws (q.1 + 1) lo left back c.4
 

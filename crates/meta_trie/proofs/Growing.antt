@@ -1,5 +1,5 @@
 -- The map of items while the prefixes of a new anchor are put in, from the shortest on.
-use Rattle.std.proofs.Common.{◌≡◌, ◌≢◌, ℕ, zero, suc, ◌+◌, ◌-◌, ◌*◌, ◌/◌, ◌%◌, ◌^◌, ◌<◌, ◌≤◌, ◌⊎◌, inl, inr, List, [], ◌∷◌, ◌++◌, length, length-append, take, get_or, Option, Some, None, sym, ap, ◌∙◌, refl, arith, eqb-true, eq-eqb, get_or-set_other, get_or-set_same}
+use Rattle.std.proofs.Common.{◌≡◌, ◌≢◌, ℕ, zero, suc, ◌+◌, ◌*◌, ◌/◌, ◌%◌, ◌^◌, ◌<◌, ◌≤◌, ◌⊎◌, inl, inr, List, [], ◌∷◌, ◌++◌, length, length-append, take, get_or, Option, Some, None, sym, ap, ◌∙◌, refl, arith, eqb-true, eq-eqb, get_or-set_other, get_or-set_same}
 use Rattle.std.specs.Prelude.{Bool, true, false, ◌==◌, ◌&&◌, ◌||◌, nat_lt, nat_le, max, if◌then◌else◌}
 use mathlib.Core.Bool.{false≢true}
 use Rattle.std.proofs.lemmas.Bool.{lt-ltb, le-ltb, le-leb, lt-leb, ne_eqb, eqb-false, cases_order}
@@ -43,7 +43,7 @@ or_false false = refl
 same_number : (x : ℕ) → (x == x) ≡ true
 same_number x = eq-eqb x x refl
 
-begun : (p a : List ℕ) → begins p a ≡ true → p ≡ take (length p) a
+pub begun : (p a : List ℕ) → begins p a ≡ true → p ≡ take (length p) a
 begun p a b =
     let t = begins_is p a b in
     sym (ap (take (length p)) t.1 ∙ go p t.0)
@@ -52,7 +52,7 @@ begun p a b =
     go [] s = refl
     go (x ∷ q) s = ap (λ (r : List ℕ). x ∷ r) (go q s)
 
-begun_short : (p a : List ℕ) → begins p a ≡ true → length p ≤ length a
+pub begun_short : (p a : List ℕ) → begins p a ≡ true → length p ≤ length a
 begun_short p a b =
     let t = begins_is p a b in
     let n = ap length t.1 in

@@ -117,7 +117,7 @@ laid_words k old between left leaf a next m v added room me ve =
       high = λ x p. let a3 : x ≢ 3 = omega arith in let a0 : x ≢ 0 = omega arith in get_or-set_other (set between 0 m) 3 x v 0 a3 ∙ get_or-set_other between 0 x m 0 a0;
     }
 
-link_fits : (k : Shape) (ws : List ℕ) (left : ℕ) (lo : List ℕ) (hi : Option (List ℕ)) → Neighbour k ws left lo hi → (n : ℕ) → next_at k ws left ≡ n → n ≤ k.leaves
+pub link_fits : (k : Shape) (ws : List ℕ) (left : ℕ) (lo : List ℕ) (hi : Option (List ℕ)) → Neighbour k ws left lo hi → (n : ℕ) → next_at k ws left ≡ n → n ≤ k.leaves
 link_fits k ws left lo hi nb zero e = omega arith
 link_fits k ws left lo hi nb (suc r) e = let live = (nb.next r (e ∙ omega arith)).0 in omega (arith, live.0)
 

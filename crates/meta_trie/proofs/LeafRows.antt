@@ -1,5 +1,5 @@
 -- The live leaves, and the list of their rows.
-use Rattle.std.proofs.Common.{◌≡◌, ◌≢◌, ℕ, ◌+◌, ◌-◌, ◌<◌, ◌≤◌, List, [], ◌∷◌, length, Option, None, sym, ap, ◌∙◌, refl, subst, arith, eqb-true}
+use Rattle.std.proofs.Common.{◌≡◌, ◌≢◌, ℕ, ◌+◌, ◌<◌, ◌≤◌, List, [], ◌∷◌, length, Option, None, sym, ap, ◌∙◌, refl, subst, arith, eqb-true}
 use Rattle.std.specs.Prelude.{Bool, true, false, ◌==◌, ◌||◌, eqb, map, is_some}
 use Rattle.std.specs.List.{AllByRecursion, IsDistinct, list_any}
 use mathlib.Core.Bool.{false≢true}
@@ -32,7 +32,7 @@ distinct_from : (leaf : ℕ) (A : Anchors) → AllByRecursion (λ (q : List ℕ 
 distinct_from leaf [] a = tt
 distinct_from leaf (q ∷ A) a = (ne_eqb leaf q.1 (λ e. a.0 (sym e)), distinct_from leaf A a.1)
 
-leaves_distinct : (A : Anchors) → Rises A → IsDistinct eqb (map (λ (q : List ℕ × ℕ). q.1) A)
+pub leaves_distinct : (A : Anchors) → Rises A → IsDistinct eqb (map (λ (q : List ℕ × ℕ). q.1) A)
 unfolding IsDistinct
 leaves_distinct [] r = tt
 leaves_distinct (q ∷ A) r = (distinct_from q.1 A (unlisted A q.1 r.1), leaves_distinct A r.2)

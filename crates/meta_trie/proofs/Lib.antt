@@ -18,3 +18,11 @@ pub mod Stepping
 pub mod Adding
 pub mod Laying
 pub mod OnlyOne
+pub mod Building
+pub mod Shrinking
+pub mod Leaving
+pub mod Cutting
+pub mod TopMarks
+pub mod Dropping
+pub mod Copies
+pub mod Merging

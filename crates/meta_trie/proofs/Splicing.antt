@@ -56,11 +56,11 @@ module _ (k : Shape) (w0 w1 w2 w3 : List ℕ) (left leaf : ℕ) (a : List ℕ) (
     low = λ x l. p3.others x (λ r e. omega (arith, l)) ∙ p2.others x (omega (arith, l)) ∙ p1.before x (omega (arith, l));
   }
 
-link_apart : (back : Anchors) (l : ℕ) → AllByRecursion (λ (r : List ℕ × ℕ). r.1 ≢ l) back → first_link back ≢ l + 1
+pub link_apart : (back : Anchors) (l : ℕ) → AllByRecursion (λ (r : List ℕ × ℕ). r.1 ≢ l) back → first_link back ≢ l + 1
 link_apart [] l a e = omega (arith, e)
 link_apart (r ∷ back) l a e = let same : r.1 ≡ l = omega (arith, e) in a.0 same
 
-first_link-front : (front : Anchors) (q : List ℕ × ℕ) (xs ys : Anchors) → first_link (front ++ q ∷ xs) ≡ first_link (front ++ q ∷ ys)
+pub first_link-front : (front : Anchors) (q : List ℕ × ℕ) (xs ys : Anchors) → first_link (front ++ q ∷ xs) ≡ first_link (front ++ q ∷ ys)
 first_link-front [] q xs ys = refl
 first_link-front (f ∷ front) q xs ys = refl
 

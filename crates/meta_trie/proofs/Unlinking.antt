@@ -1,5 +1,5 @@
 -- Taking an item out of its bucket.
-use Rattle.std.proofs.Common.{◌≡◌, ◌≢◌, ℕ, ◌+◌, ◌<◌, inl, inr, List, [], ◌∷◌, ◌++◌, length, take, Option, Some, None, sym, ap, ◌∙◌, refl, subst, arith, eqb-true, eq-eqb}
+use Rattle.std.proofs.Common.{◌≡◌, ◌≢◌, ℕ, ◌+◌, ◌<◌, ◌≤◌, inl, inr, List, [], ◌∷◌, ◌++◌, length, take, Option, Some, None, sym, ap, ◌∙◌, refl, subst, arith, eqb-true, eq-eqb}
 use Rattle.std.specs.Prelude.{Bool, true, false, ◌==◌, if◌then◌else◌}
 use Rattle.std.specs.List.{AllByRecursion}
 use mathlib.Core.Bool.{false≢true}
@@ -11,7 +11,8 @@ use Rattle.anchor_rules.proofs.ItemParts.{all_both, all_parts}
 use Rattle.row_words.specs.declared.shape.Shape.{Shape}
 use Rattle.row_words.specs.declared.rows.ItemRow.{ItemRow}
 use Rattle.row_words.specs.Decode.{head_at, item_at, anchor_at, IsLive}
-use Rattle.meta_trie.specs.Trie.{Says, Entry, bucket_of, Chain, Stands, Names, Apart, HasEntry, Spare, Among, Holds, last_link}
+use Rattle.meta_trie.specs.Trie.{Says, Entry, bucket_of, Chain, Stands, Names, Apart, HasEntry, Spare, Among, Holds, last_link, IsFound}
+use Rattle.meta_trie.specs.declared.finds.Found.{Found}
 use Rattle.meta_trie.specs.Words.{Unlinked, without_item}
 use Rattle.meta_trie.proofs.Owners.{IsIt, its, some_same, chain_kept, spare_kept, live_kept}
 use Rattle.meta_trie.proofs.Lists.{not_same, all_at}
@@ -279,3 +280,42 @@ module _ (k : Shape) (old new : List ℕ) (known : List ℕ → Option Item) (i 
     whole = whole_new;
     counted = omega (arith, h.counted, u.used);
   }
+
+  pub unlinked-owner : (j : ℕ) → unlinked.owner j ≡ (if j == i then None else h.owner j)
+  unfolding unlinked
+  unlinked-owner j = refl
+
+  -- the other places keep their owners
+  pub unlinked_other : (j : ℕ) (p : List ℕ) → h.owner j ≡ Some p → j ≢ i → unlinked.owner j ≡ Some p
+  unlinked_other j p own ne = unlinked-owner j ∙ ap (λ (t : Bool). if t then None else h.owner j) (ne_eqb j i ne) ∙ own
+
+front_far : (front : List Entry) (e : Entry) (back : List Entry) → Apart (front ++ e ∷ back) → AllByRecursion (λ (f : Entry). f.at ≢ e.at) front
+front_far [] e back a = tt
+front_far (f ∷ front) e back a = ((all_at (λ (g : Entry). (f.at ≡ g.at → ⊥) × (f.name ≡ g.name → ⊥)) front e back a.0).0, front_far front e back a.1)
+
+last_low : (k : Shape) (ws : List ℕ) (known : List ℕ → Option Item) (b : ℕ) (front : List Entry) → AllByRecursion (Stands k ws known b) front → last_link front ≤ k.items
+last_low k ws known b [] s = omega arith
+last_low k ws known b (e ∷ []) s = omega (arith, s.0.in_range)
+last_low k ws known b (e ∷ f ∷ es) s = last_low k ws known b (f ∷ es) s.1
+
+-- what a walk to an item gives to one who takes it out
+pub record Removable (k : Shape) (ws : List ℕ) (known : List ℕ → Option Item) (h : Holds k ws known) (name : List ℕ) (found : Found) : Type 0 where
+  pub mine : h.owner found.at ≡ Some name
+  pub stands : Stands k ws known (bucket_of k name) (record { at = found.at; name = name })
+  pub before_low : found.before ≤ k.items
+  pub apart : found.before ≢ found.at + 1
+
+pub removable : (k : Shape) (ws : List ℕ) (known : List ℕ → Option Item) (h : Holds k ws known) (name : List ℕ) (found : Found) → IsFound k ws (h.buckets (bucket_of k name)) name found → Removable k ws known h name found
+removable k ws known h name found f =
+    let lt : bucket_of k name < k.heads = (let some = h.ranges.heads.0 in omega arith) in
+    let e : Entry = record { at = found.at; name = name } in
+    let all = subst (AllByRecursion (Stands k ws known (bucket_of k name))) f.whole (h.standing (bucket_of k name) lt) in
+    let fronts = (all_parts (Stands k ws known (bucket_of k name)) f.front (e ∷ f.back) all).0 in
+    let low = last_low k ws known (bucket_of k name) f.front fronts in
+    let far = last_far f.front found.at (front_far f.front e f.back (subst Apart f.whole (h.apart (bucket_of k name) lt))) in
+    record {
+      mine = all_at (λ (x : Entry). h.owner x.at ≡ Some x.name) f.front e f.back (subst (AllByRecursion (λ (x : Entry). h.owner x.at ≡ Some x.name)) f.whole (h.owned (bucket_of k name) lt));
+      stands = all_at (Stands k ws known (bucket_of k name)) f.front e f.back all;
+      before_low = omega (arith, low, f.before);
+      apart = λ q. far (sym f.before ∙ q);
+    }

@@ -2,3 +2,5 @@ pub mod Trie
 pub mod Stands
 pub mod Words
 pub mod Grows
+pub mod Fits
+pub mod Shrinks

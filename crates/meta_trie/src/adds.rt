@@ -40,7 +40,7 @@ pub fn add_anchor<R: RowsMut>(
 }
 
 /// [`add_anchor`], with a counter for the steps of its looks.
-fn add_counting<R: RowsMut, L: Ledger>(
+pub(crate) fn add_counting<R: RowsMut, L: Ledger>(
     rows: &mut R,
     left: u32,
     anchor: &[u8],
@@ -87,7 +87,7 @@ fn share_count(anchor: &AnchorWords, bytes: &[u8]) -> usize
 
 /// How many prefixes of the bytes are prefixes of the anchor of the leaf that `next` names, if it
 /// names one.
-fn share_next<R: Rows, L: Ledger>(
+pub(crate) fn share_next<R: Rows, L: Ledger>(
     rows: &mut R,
     next: u32,
     bytes: &[u8],

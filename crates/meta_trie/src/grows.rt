@@ -44,7 +44,7 @@ fn either(a: bool, b: bool) -> bool
     a || b
 }
 
-fn kept_or(keeps: bool, kept: u32, other: u32) -> u32
+pub(crate) fn kept_or(keeps: bool, kept: u32, other: u32) -> u32
     ensures { result ≡ (if keeps then kept else other) }
 {
     if keeps { kept } else { other }

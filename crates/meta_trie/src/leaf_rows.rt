@@ -36,7 +36,7 @@ fn row_values(anchor: &[u8], previous: u32, next: u32) -> [u64; 35]
 }
 
 /// Links the row of a leaf, in one of its two links, to a leaf as number + 1 or 0.
-fn set_link<R: RowsMut>(rows: &mut R, leaf: u32, o: u32, link: u64)
+pub(crate) fn set_link<R: RowsMut>(rows: &mut R, leaf: u32, o: u32, link: u64)
     requires leaf { leaf < (R.shape rows.old).leaves }
     requires o { o < 35 }
     ensures words { LinkSet (R.shape rows.old) (R.words rows.old) (R.words rows.new) leaf o link }
@@ -48,7 +48,7 @@ fn set_link<R: RowsMut>(rows: &mut R, leaf: u32, o: u32, link: u64)
 }
 
 /// Sets the link back in the row that `next` names, if it names one.
-fn set_previous<R: RowsMut>(rows: &mut R, next: u32, link: u64)
+pub(crate) fn set_previous<R: RowsMut>(rows: &mut R, next: u32, link: u64)
     requires { next ≤ (R.shape rows.old).leaves }
     ensures words { PreviousSet (R.shape rows.old) (R.words rows.old) (R.words rows.new) next link }
     ensures shape { R.shape rows.new ≡ R.shape rows.old }

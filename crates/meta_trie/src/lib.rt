@@ -3,6 +3,7 @@
 #![tactic(auto)]
 
 mod adds;
+mod builds;
 mod changes;
 mod finds;
 mod free_leaves;
@@ -11,10 +12,14 @@ mod leaf_rows;
 mod links;
 mod looks;
 mod puts;
+mod removes;
+mod shrinks;
 mod starts;
 mod unlinks;
 
 pub use adds::add_anchor;
+pub use builds::build;
 pub use free_leaves::free_leaf;
 pub use looks::{look, look_by_hash};
+pub use removes::remove_anchor;
 pub use starts::start;

@@ -1,4 +1,4 @@
-use Rattle.std.proofs.Common.{◌-◌, arith, sym, ◌∙◌}
+use Rattle.std.proofs.Common.{arith, sym, ◌∙◌}
 use Rattle.meta_trie.proofs.Laying.{splittable, cut_grows, growing_start, laid_stands, new_count-at}
 use Rattle.meta_trie.proofs.adds.add_checked.Goals as goal
 

@@ -1,4 +1,4 @@
-use Rattle.std.proofs.Common.{◌≡◌, ◌+◌, ◌-◌, ℕ, List, arith, sym, ap, ◌∙◌}
+use Rattle.std.proofs.Common.{◌≡◌, ◌+◌, ℕ, List, arith, sym, ap, ◌∙◌}
 use Rattle.key_bytes.specs.Common.{lcp}
 use Rattle.meta_trie.specs.Grows.{back_count}
 use Rattle.meta_trie.proofs.Adding.{neighbour}

@@ -1,4 +1,4 @@
-use Rattle.std.proofs.Common.{◌+◌, arith, ◌∙◌}
+use Rattle.std.proofs.Common.{arith, ◌∙◌}
 use Rattle.key_bytes.proofs.Separators.{short_left, short_right, apart}
 use Rattle.meta_trie.proofs.adds.share_count.Goals as goal
 use Rattle.meta_trie.proofs.adds.share_count.Goals.{then-same-test+then-i-bytes+else-byte-bytes, then-same-test+else-i-bytes, else-same-test}

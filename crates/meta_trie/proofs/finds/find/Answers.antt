@@ -1,4 +1,4 @@
-use Rattle.std.proofs.Common.{◌≡◌, ◌-◌, arith, ◌∙◌}
+use Rattle.std.proofs.Common.{◌≡◌, arith, ◌∙◌}
 use Rattle.row_words.specs.Decode.{head_at}
 use Rattle.meta_trie.specs.Trie.{bucket_of}
 use Rattle.meta_trie.proofs.Walks.{walk_start, walk_used, walk_more, walk_found, walk_end, walk_room, walk_cost, walk_counts}

@@ -1,4 +1,4 @@
-use Rattle.std.proofs.Common.{suc, ◌≡◌, ◌+◌, ◌-◌, ℕ, length, take, get_or, arith, sym, ap, ◌∙◌, subst, refl}
+use Rattle.std.proofs.Common.{suc, ◌≡◌, ◌+◌, ℕ, length, take, get_or, arith, sym, ap, ◌∙◌, subst, refl}
 use Rattle.key_bytes.specs.Fnv.{fnv_start, fnv_step, prefix_hash}
 use Rattle.key_bytes.proofs.Hashes.{prefix_hash-nil, prefix_hash-take}
 use Rattle.meta_trie.specs.Grows.{Growing}

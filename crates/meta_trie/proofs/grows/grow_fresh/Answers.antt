@@ -1,4 +1,4 @@
-use Rattle.std.proofs.Common.{◌-◌, arith, refl}
+use Rattle.std.proofs.Common.{arith, refl}
 use Rattle.meta_trie.proofs.Growing.{counts_shared}
 use Rattle.meta_trie.proofs.Linking.{free_some}
 use Rattle.meta_trie.proofs.Starting.{no_bit}

@@ -1,4 +1,4 @@
-use Rattle.std.proofs.Common.{◌-◌, arith, ap, ◌∙◌, refl}
+use Rattle.std.proofs.Common.{arith, ap, ◌∙◌, refl}
 use Rattle.std.specs.Prelude.{nat_lt}
 use Rattle.meta_trie.proofs.Growing.{counts_shared, front_begins, back_begins}
 use Rattle.meta_trie.proofs.Stepping.{found_some, found_place, known_step}
