@@ -11,8 +11,9 @@ use row_words::Rows;
 use std::sync::ledger::Ledger;
 use steps::Steps;
 
-/// This leaf, by its row and that of the next one.
-pub(crate) fn at_leaf<R: Rows, L: Ledger>(rows: &mut R, leaf: u32, steps: &mut Steps<L>) -> Located
+/// A leaf of the table, with the anchor that follows its own. It takes two steps, for its row and
+/// that of the next leaf.
+pub fn at_leaf<R: Rows, L: Ledger>(rows: &mut R, leaf: u32, steps: &mut Steps<L>) -> Located
     requires table { IsTable (R.shape rows.old) (R.words rows.old) }
     requires leaf { (A : Anchors) → StandsFor (R.shape rows.old) (R.words rows.old) A → (s : Span) × (span A leaf ≡ Some s) }
     ensures leaf { result.leaf ≡ leaf }

@@ -12,5 +12,6 @@ mod roots;
 mod tests;
 
 pub use answers::{Located, Longest};
+pub use leaves::at_leaf;
 pub use locates::locate;
 pub use longests::longest;

@@ -1,12 +1,14 @@
 //! Searches of a small table.
 
-ghost use Rattle.std.specs.Prelude.{◌≡◌, ◌<◌, [], ◌∷◌, IfOk};
+ghost use Rattle.std.specs.Prelude.{◌≡◌, ◌<◌, [], ◌∷◌, IfOk, length};
+ghost use Rattle.anchor_rules.specs.Items.{first_leaf};
 ghost use Rattle.row_words.specs.VecRows.{shape_of, words_of};
 ghost use Rattle.meta_trie.specs.Stands.{StandsFor, IsTable};
 
 use crate::{locate, longest};
+use anchor_rules::Anchors;
 use key_bytes::Key;
-use meta_trie::{add_anchor, start};
+use meta_trie::{add_anchor, build, start};
 use row_words::{Shape, VecRows};
 use std::alloc::Global;
 use std::marker::Brand;
@@ -14,29 +16,51 @@ use std::sync::ledger::{Blank, Ledger};
 use std::test::Fail;
 use steps::Steps;
 
-// A table of the empty anchor, `Jo` and `Jos`, with leaves 0, 1 and 2. Its four prefixes share two
-// buckets.
+// Four items in two buckets: the prefixes of `Jos` fill them.
+const SMALL: Shape = Shape {
+    leaves: 4,
+    items: 4,
+    heads: 2,
+    values: 1,
+    lanes: 1,
+    soft: 2,
+    hard: 3,
+    merge_sum: 1,
+    salt: 0,
+};
+
+// A table of the empty anchor, `Jo` and `Jos`, with leaves 0, 1 and 2.
 fn three_anchors(alloc: Global) -> Result<VecRows, Fail>
     ensures { IfOk result (λ rows. IsTable (shape_of rows) (words_of rows)) }
 {
-    let shape = Shape {
-        leaves: 4,
-        items: 4,
-        heads: 2,
-        values: 1,
-        lanes: 1,
-        soft: 2,
-        hard: 3,
-        merge_sum: 1,
-        salt: 0,
-    };
-    shape.check()?;
-    let mut rows = VecRows::new(alloc, &shape)?;
+    let mut rows = VecRows::new(alloc, &SMALL)?;
     start(&mut rows);
     let first = Key::new(alloc, b"Jo")?;
     add_anchor(&mut rows, 0, &first, 1)?;
     let second = Key::new(alloc, b"Jos")?;
     add_anchor(&mut rows, 1, &second, 2)?;
+    Ok(rows)
+}
+
+// The same anchors and leaves in a list.
+fn three_in_a_list(alloc: Global) -> Result<Anchors, Fail>
+    ensures { IfOk result (λ anchors. (length anchors < 4) × (first_leaf anchors ≡ 0)) }
+{
+    let mut anchors = Anchors::first(alloc, 0)?;
+    let first = Key::new(alloc, b"Jo")?;
+    anchors.with_split(0, first, 1)?;
+    let second = Key::new(alloc, b"Jos")?;
+    anchors.with_split(1, second, 2)?;
+    Ok(anchors)
+}
+
+// A table of these.
+fn three_built(alloc: Global) -> Result<VecRows, Fail>
+    ensures { IfOk result (λ rows. IsTable (shape_of rows) (words_of rows)) }
+{
+    let anchors = three_in_a_list(alloc)?;
+    let mut rows = VecRows::new(alloc, &SMALL)?;
+    build(&mut rows, &anchors)?;
     Ok(rows)
 }
 
@@ -63,13 +87,28 @@ fn found(rows: &mut VecRows, alloc: Global, bytes: &[u8]) -> Result<(u32, u32), 
 
 #[test]
 fn keys_among_three_anchors(rt: HostRuntime) -> Result<(), Fail> {
-    let mut rows = three_anchors(rt.alloc())?;
-    assert_eq!(rt; found(&mut rows, rt.alloc(), b"J")?, (0, 1));
-    assert_eq!(rt; found(&mut rows, rt.alloc(), b"Jn")?, (0, 1));
-    assert_eq!(rt; found(&mut rows, rt.alloc(), b"Jo")?, (1, 2));
-    assert_eq!(rt; found(&mut rows, rt.alloc(), b"Jor")?, (1, 2));
-    assert_eq!(rt; found(&mut rows, rt.alloc(), b"Jos")?, (2, 3));
-    assert_eq!(rt; found(&mut rows, rt.alloc(), b"Josephine")?, (2, 3));
-    assert_eq!(rt; found(&mut rows, rt.alloc(), b"Jp")?, (2, 1));
+    let mut added = three_anchors(rt.alloc())?;
+    let mut built = three_built(rt.alloc())?;
+    for (bytes, leaf, len) in [
+        ("J", 0, 1),
+        ("Jn", 0, 1),
+        ("Jo", 1, 2),
+        ("Jor", 1, 2),
+        ("Jos", 2, 3),
+        ("Josephine", 2, 3),
+        ("Jp", 2, 1),
+    ] {
+        let key = bytes.as_bytes();
+        assert_eq!(rt;
+            found(&mut added, rt.alloc(), key)?,
+            (leaf, len),
+            "of {bytes}"
+        );
+        assert_eq!(rt;
+            found(&mut built, rt.alloc(), key)?,
+            (leaf, len),
+            "of {bytes}"
+        );
+    }
     Ok(())
 }

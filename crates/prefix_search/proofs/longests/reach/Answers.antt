@@ -1,4 +1,4 @@
-use Rattle.std.proofs.Common.{◌≡◌, ◌+◌, length, ◌-◌, ◌/◌, arith, sym, ap, ◌∙◌}
+use Rattle.std.proofs.Common.{◌≡◌, length, arith, sym, ap, ◌∙◌}
 use Rattle.std.specs.Prelude.{min}
 use Rattle.key_bytes.specs.Fnv.{fnv_start}
 use Rattle.key_bytes.proofs.Hashes.{prefix_hash-nil}
@@ -14,7 +14,7 @@ use Rattle.prefix_search.proofs.longests.reach.Goals as goal
 pub look_by_hash-requires-clause-hash : goal.look_by_hash-requires-clause-hash
 look_by_hash-requires-clause-hash g c =
     rw c.loop-low.invariant.shape
-    (hash_on _ c.loop-low.hash _ c.loop-low.low (c.loop-low.low + (c.loop-low.high - c.loop-low.low + 1) / 2) c.args.key.now (omega arith) c.loop-low.invariant.hash c.extend-further.ensures)
+    (hash_on _ c.loop-low.hash _ c.loop-low.low _ c.args.key.now (omega arith) c.loop-low.invariant.hash c.extend-further.ensures)
 
 pub loop-low-init : goal.loop-low-init
 loop-low-init g c =
@@ -47,7 +47,7 @@ loop-low-preserved-in-Some g c =
       stays = g.met.R.Rows.stays_trans _ _ _ c.loop-low.invariant.stays c.look_by_hash.ensures.stays;
       low_high = omega arith;
       high_key = omega arith;
-      hash = hash_on _ c.loop-low.hash _ c.loop-low.low (c.loop-low.low + (c.loop-low.high - c.loop-low.low + 1) / 2) c.args.key.now (omega arith) c.loop-low.invariant.hash c.extend-further.ensures;
+      hash = hash_on _ c.loop-low.hash _ c.loop-low.low _ c.args.key.now (omega arith) c.loop-low.invariant.hash c.extend-further.ensures;
       known = λ A s. let w = v A s in (w.0, w.1, w.2);
       longest = c.loop-low.invariant.longest;
       cost = λ A s most fits. left_half _ _ _ _ _ _ (c.loop-low.invariant.cost A s most fits) (omega arith) (omega arith) (cost A s most fits);
@@ -65,7 +65,7 @@ loop-low-preserved g c =
       high_key = omega arith;
       hash = c.loop-low.invariant.hash;
       known = c.loop-low.invariant.known;
-      longest = λ A s m lt le. item_closed A c.args.key.now (c.loop-low.low + (c.loop-low.high - c.loop-low.low + 1) / 2) m (omega arith) (v A s);
+      longest = λ A s m lt le. item_closed A c.args.key.now _ m (omega arith) (v A s);
       cost = λ A s most fits. left_half _ _ _ _ _ _ (c.loop-low.invariant.cost A s most fits) (omega arith) (omega arith) (cost A s most fits);
     }
 

@@ -1,4 +1,4 @@
-use Rattle.std.proofs.Common.{◌≡◌, ℕ, List, [], ◌∷◌, true, sym, subst}
+use Rattle.std.proofs.Common.{◌≡◌, ℕ, List, [], ◌∷◌, sym, subst}
 use Rattle.anchor_rules.specs.Anchors.{Anchors, splits, with_split}
 use Rattle.row_words.specs.declared.shape.Shape.{Shape}
 use Rattle.meta_trie.specs.Stands.{StandsFor}
