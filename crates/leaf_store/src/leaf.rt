@@ -1,5 +1,5 @@
 //! A leaf.
-ghost use Rattle.std.specs.Prelude.{◌≡◌, ℕ, ◌+◌, ◌-◌, ◌/◌, ◌<◌, ◌≤◌, ◌⊎◌, List, [], ◌++◌, length, take, drop, map, slice_index_or, MatchOption, IsSome, IsNone, IsOk, IsTrue, IfOk, OnOk, OnErr, None, Some};
+ghost use Rattle.std.specs.Prelude.{◌≡◌, ℕ, ◌+◌, ◌-◌, ◌/◌, ◌<◌, ◌≤◌, ◌⊎◌, List, [], ◌++◌, length, take, drop, map, slice_index_or, MatchOption, IsSome, IsNone, IsOk, IsTrue, IfOk, IfErr, OnOk, OnErr, None, Some};
 ghost use Rattle.std.specs.List.{range_with_len};
 ghost use Rattle.std.specs.List.Sorted.{IsPermutation};
 ghost use Rattle.key_bytes.specs.declared.bound.Bound.TheVariants.{Low};
@@ -126,6 +126,27 @@ impl<V> Leaf<V> {
                 self.rows.push_reserved((key, value));
                 None
             }
+        }
+    }
+
+    /// Exchanges the value of a key that is there for this one, and gives back the old one; else gives
+    /// back this one. It takes no memory.
+    pub fn replace(&mut self, key: &Key, value: V) -> Result<V, V>
+        ensures old { IfOk result (λ old. find self.old.map key.now ≡ Some old) }
+        ensures map { OnOk result (self.new.map ≡ with self.old.map key.now value) }
+        ensures kept { OnOk result (self.new ≡ record self.old { map = self.new.map }) }
+
+        ensures back { IfErr result (λ back. back ≡ value) }
+        ensures absent { OnErr result (find self.old.map key.now ≡ None) }
+        ensures same { OnErr result (self.new ≡ self.old) }
+    {
+        let tag = tag_of(self.salt, key);
+        match place_of(&self.rows, &self.tags, tag, key) {
+            Some(place) => {
+                let row = &mut self.rows[place];
+                Ok(mem::replace(&mut row.1, value))
+            }
+            None => Err(value),
         }
     }
 

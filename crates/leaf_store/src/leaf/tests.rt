@@ -99,6 +99,19 @@ fn halves_move_with_ample_memory(rt: HostRuntime) -> Result<(), Fail> {
     Ok(())
 }
 
+// A value is exchanged where its key is there, and comes back where it isn't.
+#[test]
+fn values_are_exchanged(rt: HostRuntime) -> Result<(), Fail> {
+    let mut leaf = Leaf::new(rt.alloc(), 0);
+    let key = key_of(rt.alloc(), 1)?;
+    assert_eq!(rt; leaf.replace(&key, 10_u32), Err(10));
+    leaf.reserve_one()?;
+    leaf.insert_reserved(key_of(rt.alloc(), 1)?, 20);
+    assert_eq!(rt; leaf.replace(&key, 30), Ok(20));
+    assert_eq!(rt; leaf.find(&key), Some(&30));
+    Ok(())
+}
+
 // The first two bytes of FNV-1a of the byte `a`, af63dc4c8601ec8c.
 #[test]
 fn tag_of_the_key_a(rt: HostRuntime) -> Result<(), Fail> {
