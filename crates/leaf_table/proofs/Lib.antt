@@ -1,0 +1,13 @@
+pub mod Beside
+pub mod Leaves
+pub mod Lengths
+pub mod Merging
+pub mod PartEnds
+pub mod Ranges
+pub mod Readings
+pub mod Splitting
+pub mod Spreads
+pub mod Standing
+pub mod TableSizes
+pub mod WholeCalls
+pub mod Written

@@ -1,0 +1,53 @@
+-- What is read of a table's leaves.
+use Rattle.std.proofs.Common.{◌≡◌, ℕ, ◌<◌, List, [], ◌∷◌, length, get_or, true, Some, refl, sym, ap, ◌∙◌, subst, arith}
+use Rattle.anchor_rules.specs.Anchors.{Anchors, Span, AreAnchors, span, has_leaf, target}
+use Rattle.anchor_rules.specs.Items.{first_leaf}
+use Rattle.anchor_rules.proofs.Spans.{in_target}
+use Rattle.key_bytes.specs.declared.bound.Bound.{Bound}
+use Rattle.key_bytes.specs.declared.bound.Bound.TheVariants.{Low, At, High}
+use Rattle.leaf_store.specs.Leaf.{LeafMap}
+use Rattle.map_model.specs.Maps.{Pairs, find}
+use Rattle.meta_trie.specs.Stands.{anchors_of}
+use Rattle.row_words.specs.declared.shape.Shape.{Shape}
+use Rattle.leaf_table.specs.Facts.{leaf_from}
+use Rattle.leaf_table.specs.Leaves.{map_at, table_of, IsLeafTable}
+use Rattle.leaf_table.specs.Table.{Table, size_at}
+use Rattle.leaf_table.proofs.Leaves.{map_read}
+use Rattle.leaf_table.proofs.Ranges.{target_first}
+use Rattle.leaf_table.proofs.Spreads.{target_live, spread_find}
+use Rattle.leaf_table.proofs.Standing.{leaf_size, leaf_in_range}
+
+-- the first leaf has the keys from the lowest end on
+pub first_target : (A : Anchors) → AreAnchors A → first_leaf A ≡ 0 → target A [] ≡ 0
+first_target [] are zero = absurd (cc (are.first))
+first_target (x ∷ xs) are zero = target_first x xs are ∙ zero
+
+pub first_span : (A : Anchors) → AreAnchors A → first_leaf A ≡ 0 → (s : Span) × (span A 0 ≡ Some s)
+first_span A are zero = let h = in_target A are [] in (h.0, subst (λ leaf. span A leaf ≡ Some h.0) (first_target A are zero) h.1)
+
+pub from_first : (A : Anchors) (from : Bound) → ((key : List ℕ) → from ≡ At key → ⊥) → leaf_from A from ≡ target A []
+from_first A Low other = refl
+from_first A (At key) other = absurd (other key refl)
+from_first A High other = refl
+
+module _ (k : Shape) (ws : List ℕ) (leaves : List (LeafMap (List ℕ))) (keys : ℕ) (whole : IsLeafTable k ws leaves keys) (t : Table) (is : table_of k ws leaves ≡ t) where
+  -- a leaf of the table has its place
+  pub live_place : (leaf : ℕ) → has_leaf t.anchors leaf ≡ true → leaf < length leaves
+  live_place leaf has =
+      let h = leaf_in_range k ws leaves keys whole leaf (subst (λ (u : Table). has_leaf u.anchors leaf ≡ true) (sym is) has) in
+      let count = whole.count in
+      omega (arith, h, count)
+
+  pub target_place : (leaf : ℕ) (key : List ℕ) → leaf ≡ target t.anchors key → leaf < length leaves
+  target_place leaf key at = live_place leaf (subst (λ (u : Table). has_leaf u.anchors leaf ≡ true) is (subst (λ l. has_leaf (anchors_of k ws) l ≡ true) (sym (at ∙ ap (λ (u : Table). target u.anchors key) (sym is))) (target_live (anchors_of k ws) whole.stands.anchors key)))
+
+  pub size_read : (leaf : ℕ) (d : LeafMap (List ℕ)) → leaf < length leaves → length (get_or leaves leaf d).map ≡ size_at t leaf
+  size_read leaf d lt = ap (λ (p : Pairs (List ℕ)). length p) (map_read leaves leaf d lt) ∙ (sym (leaf_size k ws leaves keys whole leaf) ∙ ap (λ (u : Table). size_at u leaf) is)
+
+  pub find_read : (leaf : ℕ) (key : List ℕ) (d : LeafMap (List ℕ)) → leaf ≡ target t.anchors key → find (get_or leaves leaf d).map key ≡ find t.map key
+  find_read leaf key d at =
+      let here : leaf ≡ target (anchors_of k ws) key = at ∙ ap (λ (u : Table). target u.anchors key) (sym is) in
+      ap (λ (p : Pairs (List ℕ)). find p key) (map_read leaves leaf d (target_place leaf key at))
+      ∙ (ap (λ l. find (map_at leaves l) key) here
+      ∙ (sym (spread_find (anchors_of k ws) whole.stands.anchors (table_of k ws leaves).map (map_at leaves) whole.spread key)
+      ∙ ap (λ (u : Table). find u.map key) is))

@@ -1,0 +1,99 @@
+//! Looking for a key, and at the leaves.
+
+ghost use Rattle.std.specs.Prelude.{◌≡◌, ◌+◌, ◌-◌, ◌<◌, ℕ, Option, Some, None, MatchOption, true};
+ghost use Rattle.key_bytes.specs.declared.bound.Bound.{Bound};
+ghost use Rattle.anchor_rules.specs.Anchors.{target, has_leaf};
+ghost use Rattle.map_model.specs.Maps as maps;
+ghost use Rattle.row_words.specs.VecRows.{shape_of, words_of};
+ghost use Rattle.meta_trie.specs.Stands.{StandsFor, anchors_of};
+ghost use Rattle.prefix_search.specs.Search.{IsLocated};
+ghost use Rattle.leaf_table.specs.Facts.{AreBeside};
+ghost use Rattle.leaf_table.specs.Table.{size_at};
+
+use crate::{LeafTable, Neighbours};
+use key_bytes::Key;
+use prefix_search::{Located, locate};
+use row_words::{Rows, VecRows};
+use std::marker::Brand;
+use std::sync::ledger::{Blank, Ledger};
+use steps::Steps;
+
+impl LeafTable {
+    /// The leaf that has the key, if any has. It takes a look for each binary digit of the key's
+    /// length or of that of the longest anchor, whichever is less.
+    pub fn leaf_of(&mut self, key: &Key) -> u32
+        ensures target { result ≡ target self.old.anchors key.now }
+        ensures live { has_leaf self.old.anchors result ≡ true }
+        ensures same { self.new ≡ self.old }
+    {
+        locate_key::<Brand>(&mut self.rows, key, Blank::new(1)).leaf
+    }
+
+    /// How many keys a leaf has.
+    pub fn size(&self, leaf: u32) -> usize
+        requires { has_leaf self.now.anchors leaf ≡ true }
+        ensures { result ≡ size_at self.now leaf }
+    {
+        self.leaves[leaf as usize].len()
+    }
+
+    /// The value of a key, whose leaf this is.
+    pub fn find(&self, leaf: u32, key: &Key) -> Option<&[u8]>
+        requires { leaf ≡ target self.now.anchors key.now }
+        ensures { MatchOption result (maps.find self.now.map key.now ≡ None) (λ value. maps.find self.now.map key.now ≡ Some value.now) }
+    {
+        match self.leaves[leaf as usize].find(key) {
+            Some(value) => Some(value.get()),
+            None => None,
+        }
+    }
+
+    /// The leaves just before and just behind a leaf.
+    pub fn neighbours(&mut self, leaf: u32) -> Neighbours
+        requires { has_leaf self.old.anchors leaf ≡ true }
+        ensures beside { AreBeside self.old.anchors leaf result }
+        ensures same { self.new ≡ self.old }
+    {
+        beside::<Brand>(&mut self.rows, leaf, Blank::new(1))
+    }
+}
+
+// The leaf of a key, with a counter for the steps of the search.
+fn locate_key<L: Ledger>(rows: &mut VecRows, key: &Key, blank: Blank) -> Located
+    requires name { blank.name ≡ L.name }
+    requires parts { blank.parts ≡ L.parts }
+    requires some { 0 < blank.parts }
+    requires stands { StandsFor (shape_of rows.old) (words_of rows.old) (anchors_of (shape_of rows.old) (words_of rows.old)) }
+    ensures located { IsLocated (anchors_of (shape_of rows.old) (words_of rows.old)) key.now result }
+    ensures words { words_of rows.new ≡ words_of rows.old }
+    ensures shape { shape_of rows.new ≡ shape_of rows.old }
+{
+    let mut steps = Steps::<L>::new(blank);
+    locate(rows, key, &mut steps)
+}
+
+// The leaves that a leaf's row names.
+fn beside<L: Ledger>(rows: &mut VecRows, leaf: u32, blank: Blank) -> Neighbours
+    requires name { blank.name ≡ L.name }
+    requires parts { blank.parts ≡ L.parts }
+    requires some { 0 < blank.parts }
+    requires stands { StandsFor (shape_of rows.old) (words_of rows.old) (anchors_of (shape_of rows.old) (words_of rows.old)) }
+    requires live { has_leaf (anchors_of (shape_of rows.old) (words_of rows.old)) leaf ≡ true }
+    ensures beside { AreBeside (anchors_of (shape_of rows.old) (words_of rows.old)) leaf result }
+    ensures words { words_of rows.new ≡ words_of rows.old }
+    ensures shape { shape_of rows.new ≡ shape_of rows.old }
+{
+    let mut steps = Steps::<L>::new(blank);
+    let row = rows.leaf(leaf, &mut steps);
+    Neighbours {
+        left: named(row.previous),
+        right: named(row.next),
+    }
+}
+
+// The leaf that a link names, if it names one.
+fn named(link: u32) -> Option<u32>
+    ensures { MatchOption result (link ≡ 0) (λ leaf. link ≡ leaf + 1) }
+{
+    if link == 0 { None } else { Some(link - 1) }
+}

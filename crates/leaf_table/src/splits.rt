@@ -1,0 +1,84 @@
+//! Splitting a leaf.
+
+ghost use Rattle.std.specs.Prelude.{ℕ, ◌≡◌, ◌≢◌, ◌-◌, ◌<◌, ◌≤◌, [], length, take, drop, true, IfOk, IfErr, OnOk, OnErr};
+ghost use Rattle.anchor_rules.specs.Anchors.{has_leaf};
+ghost use Rattle.leaf_table.specs.Changes.{IsSplit, parting, stay_count};
+ghost use Rattle.leaf_table.specs.Facts.{IsSplitFault};
+ghost use Rattle.leaf_table.specs.Leaves.{map_at};
+ghost use Rattle.leaf_table.specs.Table.{size_at};
+
+use crate::{LeafTable, SplitFault};
+use key_bytes::{Bound, Bytes, Key, separator};
+use leaf_store::Leaf;
+use meta_trie::{add_anchor, free_leaf};
+use row_words::Rows;
+use std::alloc::{AllocError, Global};
+
+// What a split needs before any row changes.
+#[derive(Drop)]
+struct Parting {
+    // The anchor of the new leaf.
+    anchor: Key,
+    // An empty leaf with room for the keys that go.
+    room: Leaf<Bytes>,
+}
+
+impl LeafTable {
+    /// Splits a leaf: its upper half goes to the least leaf that isn't live. Of an odd number of
+    /// keys the greater half stays.
+    pub fn split(&mut self, leaf: u32) -> Result<(), SplitFault>
+        requires live { has_leaf self.old.anchors leaf ≡ true }
+        requires two { 2 ≤ size_at self.old leaf }
+        ensures ok { OnOk result (IsSplit self.old self.new leaf) }
+        ensures fault { IfErr result (IsSplitFault self.old leaf) }
+        ensures refused { OnErr result (self.new ≡ self.old) }
+    {
+        let right = free_leaf(&mut self.rows)?;
+        let salt = self.rows.salt();
+        let parting = part_of(self.alloc, &mut self.leaves[leaf as usize], salt)?;
+        add_anchor(&mut self.rows, leaf, &parting.anchor, right)?;
+        halve(
+            &mut self.leaves,
+            leaf as usize,
+            right as usize,
+            parting.room,
+        );
+        Ok(())
+    }
+}
+
+// The anchor that parts the halves of a leaf, and room for the upper one.
+fn part_of(alloc: Global, leaf: &mut Leaf<Bytes>, salt: u64) -> Result<Parting, AllocError>
+    requires { 2 ≤ length leaf.old.map }
+    ensures map { leaf.new.map ≡ leaf.old.map }
+    ensures anchor { IfOk result (λ p. p.anchor ≡ parting leaf.old.map) }
+    ensures empty { IfOk result (λ p. p.room.map ≡ []) }
+    ensures room { IfOk result (λ p. length leaf.old.map - stay_count (length leaf.old.map) ≤ p.room.spare) }
+{
+    leaf.pairs_between(&Bound::Low, &Bound::High)?;
+    let go = leaf.len() / 2;
+    let stay = leaf.len() - go;
+    let anchor = separator(alloc, leaf.at(stay - 1).0, leaf.at(stay).0)?;
+    let mut room = Leaf::new(alloc, salt);
+    room.reserve(go)?;
+    Ok(Parting { anchor, room })
+}
+
+// Moves the upper half of a leaf into an empty one with room for it, which takes its place.
+fn halve(leaves: &mut Vec<Leaf<Bytes>>, left: usize, right: usize, room: Leaf<Bytes>)
+    requires left { left < length leaves.old.items }
+    requires right { right < length leaves.old.items }
+    requires apart { left ≢ right }
+    requires empty { room.map ≡ [] }
+    requires room { length (map_at leaves.old.items left) - stay_count (length (map_at leaves.old.items left)) ≤ room.spare }
+    ensures stay { map_at leaves.new.items left ≡ take (stay_count (length (map_at leaves.old.items left))) (map_at leaves.old.items left) }
+    ensures go { map_at leaves.new.items right ≡ drop (stay_count (length (map_at leaves.old.items left))) (map_at leaves.old.items left) }
+    ensures others { (other : ℕ) → other ≢ left → other ≢ right → map_at leaves.new.items other ≡ map_at leaves.old.items other }
+    ensures count { length leaves.new.items ≡ length leaves.old.items }
+{
+    let mut upper = room;
+    match leaves[left].split_off(&mut upper) {
+        Ok(()) => leaves[right] = upper,
+        Err(_) => unreachable!(),
+    }
+}

@@ -1,0 +1,103 @@
+//! A table with its leaves.
+
+ghost use Rattle.std.specs.Prelude.{ℕ, ◌≡◌, ◌∷◌, [], length, replicate, IfOk, IfErr, OnOk};
+ghost use Rattle.leaf_store.specs.Leaf.{LeafMap};
+ghost use Rattle.row_words.specs.VecRows.{shape_of, words_of};
+ghost use Rattle.row_words.specs.Shape.{IsShape};
+ghost use Rattle.meta_trie.specs.Stands.{StandsFor};
+ghost use Rattle.leaf_table.specs.Leaves.{map_at};
+ghost use Rattle.leaf_table.specs.Facts.{IsWhole, IsMakeFault};
+
+use key_bytes::Bytes;
+use leaf_store::Leaf;
+use meta_trie::start;
+use row_words::{MakeFault, RowsMut, Shape, VecRows};
+use std::alloc::{AllocError, Global};
+use std::marker::Model;
+
+/// Keys with their values in leaves, and the rows of a table of anchors through which the leaf of a
+/// key is found.
+///
+/// A call that names a leaf reads no row. No call but a split, a merge and a part takes memory, save
+/// for a key and a value that are stored.
+#[derive(Drop)]
+pub struct LeafTable {
+    pub(crate) alloc: Global,
+    pub(crate) rows: VecRows,
+    /// A leaf for each number that the shape has, live or not.
+    pub(crate) leaves: Vec<Leaf<Bytes>>,
+    /// How many keys the leaves have.
+    pub(crate) keys: u64,
+}
+
+impl Model for LeafTable {
+    ghost use Rattle.row_words.specs.VecRows.{shape_of, words_of};
+    ghost use Rattle.leaf_table.specs.Table.{Table};
+    ghost use Rattle.leaf_table.specs.Leaves.{table_of, IsLeafTable};
+
+    ghost Value = { Table };
+
+    ghost view = { λ t. table_of (shape_of t.rows) (words_of t.rows) t.leaves.items };
+
+    ghost invariant = { λ t. IsLeafTable (shape_of t.rows) (words_of t.rows) t.leaves.items t.keys };
+}
+
+impl LeafTable {
+    /// A table with no key, whose one leaf is leaf 0. It takes the memory of the shape's rows, eight
+    /// bytes for each word, and of an empty leaf for each leaf that there may be.
+    pub fn make(alloc: Global, shape: &Shape) -> Result<LeafTable, MakeFault>
+        ensures ok { IfOk result (λ table. table ≡ record { shape = shape.now; anchors = ([], 0) ∷ []; map = [] }) }
+        ensures fault { IfErr result (IsMakeFault shape.now) }
+    {
+        if let Err(fault) = shape.check() {
+            return Err(MakeFault::Shape(fault));
+        }
+        match (make_rows(alloc, shape), make_leaves(alloc, shape)) {
+            (Ok(rows), Ok(leaves)) => Ok(LeafTable {
+                alloc,
+                rows,
+                leaves,
+                keys: 0,
+            }),
+            _ => Err(MakeFault::NoMemory),
+        }
+    }
+
+    /// The numbers by which the table is laid out.
+    pub fn shape(&self) -> Shape
+        ensures shape { result ≡ self.now.shape }
+        ensures whole { IsWhole self.now }
+    {
+        self.rows.layout()
+    }
+
+    /// The number of keys.
+    pub fn len(&self) -> u64
+        ensures { result ≡ length self.now.map }
+    {
+        self.keys
+    }
+}
+
+// Rows of the one empty anchor.
+fn make_rows(alloc: Global, shape: &Shape) -> Result<VecRows, AllocError>
+    requires { IsShape shape.now }
+    ensures shape { IfOk result (λ rows. shape_of rows ≡ shape.now) }
+    ensures stands { IfOk result (λ rows. StandsFor shape.now (words_of rows) (([], 0) ∷ [])) }
+{
+    let mut rows = VecRows::new(alloc, shape)?;
+    start(&mut rows);
+    Ok(rows)
+}
+
+// An empty leaf for each number.
+fn make_leaves(alloc: Global, shape: &Shape) -> Result<Vec<Leaf<Bytes>>, AllocError>
+    ensures count { IfOk result (λ leaves. length leaves.items ≡ shape.now.leaves) }
+    ensures empty { IfOk result (λ leaves. (leaf : ℕ) → map_at leaves.items leaf ≡ []) }
+{
+    let mut leaves = Vec::with_capacity(alloc, shape.leaves as usize)?;
+    for _ in 0..shape.leaves {
+        leaves.push_reserved(Leaf::new(alloc, shape.salt));
+    }
+    Ok(leaves)
+}
