@@ -1,0 +1,69 @@
+//! A put and a del of one key, and the care for its leaf.
+
+ghost use Rattle.std.specs.Prelude.{◌≡◌, ◌<◌, ◌⊎◌, true, IsSome, IfOk, IfErr, OnOk};
+ghost use Rattle.anchor_rules.specs.Anchors.{has_leaf};
+ghost use Rattle.map_model.specs.Maps.{find};
+ghost use Rattle.leaf_table.specs.Facts.{IsWhole};
+ghost use Rattle.leaf_table.specs.Table.{size_at};
+ghost use Rattle.solo_index.specs.Tending.{leaf_of, Opens, IsPut, IsTaken};
+ghost use Rattle.solo_index.specs.Causes.{RefusesPut, LeavesCrowded};
+
+use crate::tending::{Put, Taken, tend_large, tend_small};
+use key_bytes::Key;
+use leaf_table::{LeafTable, SplitFault};
+use map_model::{Full, Refusal};
+
+/// Sets the value of a key, and tends its leaf.
+pub(crate) fn put_key(table: &mut LeafTable, key: &Key, value: &[u8]) -> Result<Put, Refusal>
+    ensures ok { IfOk result (IsPut table.old table.new key.now value.now) }
+    ensures refused { IfErr result (RefusesPut table.old table.new key.now) }
+    ensures whole { IsWhole table.old }
+{
+    let values = u64::from(table.shape().values);
+    if table.len() == values {
+        return Err(Refusal::Full(Full::Values {
+            drawn: values,
+            cap: values,
+        }));
+    }
+    let leaf = open_leaf(table, key)?;
+    let new = table.set(leaf, key, value)?;
+    let tended = tend_large(table, leaf);
+    Ok(Put { new, tended })
+}
+
+// The leaf of a key, with room for the key: a crowded one is split first.
+fn open_leaf(table: &mut LeafTable, key: &Key) -> Result<u32, Refusal>
+    ensures opens { OnOk result (Opens table.old table.new key.now) }
+    ensures leaf { IfOk result (λ leaf. leaf ≡ leaf_of table.new key.now) }
+    ensures live { IfOk result (λ leaf. has_leaf table.new.anchors leaf ≡ true) }
+    ensures room { IfOk result (λ leaf. (size_at table.new leaf < table.new.shape.hard) ⊎ IsSome (find table.new.map key.now)) }
+    ensures refused { IfErr result (LeavesCrowded table.old table.new key.now) }
+{
+    let hard = table.shape().hard;
+    let leaf = table.leaf_of(key);
+    if table.size(leaf) < hard as usize || table.find(leaf, key).is_some() {
+        return Ok(leaf);
+    }
+    match table.split(leaf) {
+        Ok(()) => Ok(table.leaf_of(key)),
+        Err(SplitFault::Table(why)) => Err(Refusal::Full(Full::Crowded {
+            count: hard,
+            hard,
+            why,
+        })),
+        Err(SplitFault::NoMemory) => Err(Refusal::NoMemory),
+    }
+}
+
+/// Takes a key out, and tends its leaf.
+pub(crate) fn take_key(table: &mut LeafTable, key: &Key) -> Taken
+    ensures taken { IsTaken table.old table.new key.now result }
+    ensures whole { IsWhole table.old }
+{
+    let _ = table.shape();
+    let leaf = table.leaf_of(key);
+    let gone = table.remove(leaf, key);
+    let tended = tend_small(table, leaf);
+    Taken { gone, tended }
+}
