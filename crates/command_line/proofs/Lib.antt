@@ -1,0 +1,5 @@
+pub mod Numerals
+pub mod Cuts
+pub mod Outcomes
+pub mod Ranges
+pub mod Orders

@@ -1,0 +1,6 @@
+pub mod Number
+pub mod Marks
+pub mod Options
+pub mod Commands
+pub mod Places
+pub mod Reading
