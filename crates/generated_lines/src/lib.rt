@@ -1,0 +1,10 @@
+//! Lines of requests that a generator makes out of a number, and a source of them that keeps one line.
+#![tactic(auto)]
+
+mod digits;
+mod generated;
+mod line;
+#[cfg(test)]
+mod tests;
+
+pub use generated::Generated;
