@@ -22,7 +22,7 @@ use Rattle.session.proofs.Gaining.{begins_then}
 use Rattle.session.proofs.PlainTexts.{plain_begins, plain_whole, plain_prefix}
 
 -- where a line quits, no more is served at the end of input
-served_quit : (bytes : List ℕ) (ended : Bool) → list_any quits (served bytes ended) ≡ true → map request (served bytes ended) ≡ map request (served bytes true)
+pub served_quit : (bytes : List ℕ) (ended : Bool) → list_any quits (served bytes ended) ≡ true → map request (served bytes ended) ≡ map request (served bytes true)
 served_quit bytes true quit = refl
 served_quit bytes false quit =
     let first = asked_by_all (told_lines [] bytes) in
@@ -31,7 +31,7 @@ served_quit bytes false quit =
     asked_open bytes ∙ (sym (upto-append_quit first rest has) ∙ sym (asked_ended bytes))
 
 -- and else what is served begins what is served then
-served_begins : (bytes : List ℕ) (ended : Bool) → IsPrefix (map request (served bytes ended)) (map request (served bytes true))
+pub served_begins : (bytes : List ℕ) (ended : Bool) → IsPrefix (map request (served bytes ended)) (map request (served bytes true))
 served_begins bytes true = ([], append-nil (map request (served bytes true)))
 served_begins bytes false =
     let first = asked_by_all (told_lines [] bytes) in
@@ -49,7 +49,7 @@ module _ (limit : Option ℕ) (lane : ℕ) (fits : List Entry → Type 0) (lines
       subst (λ w. BeginsPlain written (plain_from [] w)) transcript.of_lines (plain_begins limit lane fits transcript.pieces [] [] [] written tt transcript.each (subst IsLegal (sym transcript.of_entries) legal) (inl refl) none (subst (IsPrefix written) (sym transcript.of_output) begins))
 
 -- what was written, by the end
-abbrev written_by : (end : SessionEnd) (w v : Option (List ℕ)) (output : List ℕ) → SaidBy end w v output → List ℕ
+abbrev pub written_by : (end : SessionEnd) (w v : Option (List ℕ)) (output : List ℕ) → SaidBy end w v output → List ℕ
 written_by ends.Quit w v output said = output
 written_by ends.EndOfInput w v output said = output
 written_by ends.ReadFault w v output said = output
@@ -57,7 +57,7 @@ written_by ends.WriteFault w v output said = said.0
 written_by ends.NoMemory w v output said = said.0
 written_by (ends.Spent taken) w v output said = output
 
-wrote_by : (end : SessionEnd) (w v : Option (List ℕ)) (output : List ℕ) (said : SaidBy end w v output) → Wrote w v (written_by end w v output said)
+pub wrote_by : (end : SessionEnd) (w v : Option (List ℕ)) (output : List ℕ) (said : SaidBy end w v output) → Wrote w v (written_by end w v output said)
 wrote_by ends.Quit w v output said = said
 wrote_by ends.EndOfInput w v output said = said
 wrote_by ends.ReadFault w v output said = said
@@ -72,7 +72,7 @@ module _ (bytes : List ℕ) (ended : Bool) (lines : List (List ℕ)) (output : L
       let first : IsPrefix (map request lines) (map request (served bytes ended)) = (map request some.0, sym (map-append request lines some.0) ∙ ap (map request) some.1) in
       plain_prefix [] (map request lines) (map request (served bytes true)) written (begins_then _ _ _ first (served_begins bytes ended)) (cut written begins none)
 
-  plain_by : (end : SessionEnd) (budget : ℕ) (w v : Option (List ℕ)) → TakenBy end budget bytes ended → ServedBy end (served bytes ended) lines → (said : SaidBy end w v output)
+  pub plain_by : (end : SessionEnd) (budget : ℕ) (w v : Option (List ℕ)) → TakenBy end budget bytes ended → ServedBy end (served bytes ended) lines → (said : SaidBy end w v output)
       → HasNoRefusal (written_by end w v output said) → PlainBy end bytes (written_by end w v output said)
   plain_by ends.Quit budget w v taken of_all said none =
       whole none ∙ ap (plain_from []) (ap (map request) of_all.0 ∙ served_quit bytes ended (subst (λ ls. list_any quits ls ≡ true) of_all.0 of_all.1))
@@ -83,7 +83,7 @@ module _ (bytes : List ℕ) (ended : Bool) (lines : List (List ℕ)) (output : L
   plain_by (ends.Spent count) budget w v taken of_all said none = whole none ∙ ap plain_text (of_all.0 ∙ ap (served bytes) taken.2)
 
 -- A session over a sole store that stands for the empty history.
-pub plain_session : (end : SessionEnd) (budget : ℕ) (t u : Option Told) (w v : Option (List ℕ)) (limit : Option ℕ) (lane : ℕ) (fits : List Entry → Type 0) (i j : ℕ) (m n : Option Refusal) (a b : List Entry → Type 0)
+unfoldable pub plain_session : (end : SessionEnd) (budget : ℕ) (t u : Option Told) (w v : Option (List ℕ)) (limit : Option ℕ) (lane : ℕ) (fits : List Entry → Type 0) (i j : ℕ) (m n : Option Refusal) (a b : List Entry → Type 0)
     → a [] → Session end budget t u w v limit lane true fits i j m n a b → PlainSession end budget t u w v
 plain_session end budget t u w v limit lane fits i j m n a b new s =
     let found = s.replies [] new in

@@ -32,7 +32,7 @@ use Rattle.session.specs.Patience.{MayTell}
 use Rattle.session.specs.Plain.{scan_lines, plain_answer, plain_map, plain_from, IsLineStart, HasNoRefusal, BeginsPlain}
 use Rattle.session.specs.Replies.{refusal_line, end_line, pair_lines, reply_lines}
 use Rattle.session.specs.Scans.{pairs_in, pairs_of, AreParts, is_done, MayBreak, EndsScan}
-use Rattle.session.specs.Transcripts.{Exchange, IsAnswered, IsRefused, IsScanned, IsTold, IsServedAs, AreServed, asked_of, entries_of, text_of}
+use Rattle.session.specs.Transcripts.{Exchange, IsAnswered, HasNoRoom, IsFull, IsRefused, IsScanned, IsTold, IsServedAs, AreServed, asked_of, entries_of, text_of}
 use Rattle.session.proofs.Gaining.{begins_behind, begins_more, begins_then}
 use Rattle.session.proofs.Scanning.{take_over, take_none}
 
@@ -59,7 +59,7 @@ reply_ends calls.Absent = (codes "NONE" ++ [], refl)
 reply_ends calls.Gone = (codes "GONE" ++ [], refl)
 reply_ends (calls.Pairs pairs) = end_ends (pair_lines pairs) (length pairs)
 
-start_behind : (front said : List ℕ) → IsLineStart front → IsLineStart said → IsLineStart (front ++ said)
+pub start_behind : (front said : List ℕ) → IsLineStart front → IsLineStart said → IsLineStart (front ++ said)
 start_behind front said start (inl none) = subst IsLineStart (sym (ap (λ w. front ++ w) none ∙ append-nil front)) start
 start_behind front said start (inr lines) = inr (front ++ lines.0, ap (λ w. front ++ w) lines.1 ∙ sym (append_assoc front lines.0 (10 ∷ [])))
 
@@ -100,15 +100,21 @@ pub record IsPlain (m : Pairs (List ℕ)) (asked : Asked) (x : Exchange) : Type 
   pub text : x.text ≡ plain_answer m asked
   pub after : map_from m x.entries ≡ plain_map m asked
   pub start : IsLineStart x.text
+  pub none : x.refused ≡ None
+
+-- a put is asked for, and there is no room for it
+abbrev pub LacksRoom : ℕ → (List Entry → Type 0) → List Entry → Asked → Type 0
+LacksRoom lane fits seen asked = (key : List ℕ) × (value : List ℕ) × (asked ≡ Ok (Some (asks.Put key value))) × HasNoRoom lane true fits seen (calls.Put key value)
 
 -- Or it tells a refusal, behind a beginning of that answer.
-pub record TellsRefusal (m : Pairs (List ℕ)) (asked : Asked) (x : Exchange) : Type 0 where
+pub record TellsRefusal (lane : ℕ) (fits : List Entry → Type 0) (m : Pairs (List ℕ)) (seen : List Entry) (asked : Asked) (x : Exchange) : Type 0 where
   pub refusal : Refusal
   pub lead : List ℕ
   pub text : x.text ≡ lead ++ refusal_line refusal
   pub untold : (again : Cause) → refusal ≡ refusals.Again again → ⊥
   pub start : IsLineStart lead
   pub begins : IsPrefix lead (plain_answer m asked)
+  pub full : IsFull refusal → LacksRoom lane fits seen asked
 
 -- while alone, no other lane is told to be in the way
 not_again : (limit : Option ℕ) (refusal : Refusal) → MayTell limit true refusal → (again : Cause) → refusal ≡ refusals.Again again → ⊥
@@ -122,6 +128,12 @@ no_break limit (refusals.Again cause) may again is = not_again limit (refusals.A
 no_break limit (refusals.Full cause) may again is = cc
 no_break limit refusals.NoMemory may again is = cc
 
+-- no part is refused for want of room
+break_not_full : (limit : Option ℕ) (sole : Bool) (refusal : Refusal) → MayBreak limit sole refusal → IsFull refusal → ⊥
+break_not_full limit sole (refusals.Again cause) may full = full
+break_not_full limit sole (refusals.Full cause) may full = may
+break_not_full limit sole refusals.NoMemory may full = full
+
 module _ (limit : Option ℕ) (lane : ℕ) (fits : List Entry → Type 0) (m : Pairs (List ℕ)) (up : IsMap m) (seen : List Entry) (x : Exchange) (legal : IsLegalFrom m x.entries) where
   answered : (call : calls.Call) (asked : Asked) → plain_answer m asked ≡ reply_lines (calls.answer_of m call) → plain_map m asked ≡ calls.map_after m call → IsAnswered call x → IsPlain m asked x
   answered call asked answer after is =
@@ -130,16 +142,18 @@ module _ (limit : Option ℕ) (lane : ℕ) (fits : List Entry → Type 0) (m : P
         text = said ∙ sym answer;
         after = ap (map_from m) is.only ∙ (ap (calls.map_after m) is.called ∙ sym after);
         start = inr ((reply_ends (calls.answer_of m call)).0, said ∙ (reply_ends (calls.answer_of m call)).1);
+        none = is.none;
       }
 
-  refused : (call : calls.Call) (asked : Asked) → IsRefused limit lane true fits seen call x → TellsRefusal m asked x
-  refused call asked is = record {
+  refused : (call : calls.Call) (asked : Asked) → (HasNoRoom lane true fits seen call → LacksRoom lane fits seen asked) → IsRefused limit lane true fits seen call x → TellsRefusal lane fits m seen asked x
+  refused call asked lacks is = record {
     refusal = is.refusal;
     lead = [];
     text = is.line;
     untold = not_again limit is.refusal is.may;
     start = inl refl;
     begins = (plain_answer m asked, refl);
+    full = λ full. lacks (is.room full);
   }
 
   told : (said : List ℕ) (asked : Asked) → plain_answer m asked ≡ said → plain_map m asked ≡ m → IsLineStart said → IsTold said x → IsPlain m asked x
@@ -147,9 +161,10 @@ module _ (limit : Option ℕ) (lane : ℕ) (fits : List Entry → Type 0) (m : P
     text = is.line ∙ sym answer;
     after = ap (map_from m) is.none ∙ sym after;
     start = subst IsLineStart (sym is.line) start;
+    none = is.untold;
   }
 
-  scanned : (from to : Bound) (most : ℕ) → IsScanned limit true from to most x → IsPlain m (Ok (Some (asks.Scan from to most))) x ⊎ TellsRefusal m (Ok (Some (asks.Scan from to most))) x
+  scanned : (from to : Bound) (most : ℕ) → IsScanned limit true from to most x → IsPlain m (Ok (Some (asks.Scan from to most))) x ⊎ TellsRefusal lane fits m seen (Ok (Some (asks.Scan from to most))) x
   scanned from to most is = by (is_done is.last to most (length (pairs_of x.entries))) refl is.end
     where
       pairs : Pairs (List ℕ)
@@ -167,7 +182,7 @@ module _ (limit : Option ℕ) (lane : ℕ) (fits : List Entry → Type 0) (m : P
       count : ℕ
       count = length (take most pairs)
 
-      by : (b : Bool) → is_done is.last to most (length pairs) ≡ b → EndsScan limit true b count is.line x.refused → IsPlain m (Ok (Some (asks.Scan from to most))) x ⊎ TellsRefusal m (Ok (Some (asks.Scan from to most))) x
+      by : (b : Bool) → is_done is.last to most (length pairs) ≡ b → EndsScan limit true b count is.line x.refused → IsPlain m (Ok (Some (asks.Scan from to most))) x ⊎ TellsRefusal lane fits m seen (Ok (Some (asks.Scan from to most))) x
       by true done end =
           let all : take most (between m from to) ≡ take most pairs = wanted ∙ (ap (λ w. take most pairs ++ w) (none_wanted m is.last to most (length pairs) done) ∙ append-nil (take most pairs)) in
           let said : x.text ≡ pair_lines (take most pairs) ++ end_line count = is.lines ∙ ap (λ w. pair_lines (take most pairs) ++ w) end.0 in
@@ -175,6 +190,7 @@ module _ (limit : Option ℕ) (lane : ℕ) (fits : List Entry → Type 0) (m : P
             text = said ∙ ap (λ (w : Pairs (List ℕ)). pair_lines w ++ end_line (length w)) (sym all);
             after = split.1;
             start = inr ((end_ends (pair_lines (take most pairs)) count).0, said ∙ (end_ends (pair_lines (take most pairs)) count).1);
+            none = end.1;
           })
       by false done end = inr (record {
         refusal = end.0;
@@ -184,16 +200,17 @@ module _ (limit : Option ℕ) (lane : ℕ) (fits : List Entry → Type 0) (m : P
         start = pairs_start (take most pairs);
         begins = begins_more (pair_lines (take most pairs)) (pair_lines (take most (between m from to))) (end_line (length (take most (between m from to))))
             (pair_lines rest, sym (flat_map-append (λ (p : List ℕ × List ℕ). pair_line p.0 p.1) (take most pairs) rest) ∙ ap pair_lines (sym wanted));
+        full = λ full. absurd (break_not_full limit true end.0 end.1 full);
       })
 
-  piece_cases : (asked : Asked) → IsServedAs limit lane true fits seen x asked → IsPlain m asked x ⊎ TellsRefusal m asked x
+  pub piece_cases : (asked : Asked) → IsServedAs limit lane true fits seen x asked → IsPlain m asked x ⊎ TellsRefusal lane fits m seen asked x
   piece_cases (Ok None) is = inl (told [] (Ok None) refl refl (inl refl) is)
   piece_cases (Ok (Some (asks.Put key value))) (inl is) = inl (answered (calls.Put key value) (Ok (Some (asks.Put key value))) refl refl is)
-  piece_cases (Ok (Some (asks.Put key value))) (inr is) = inr (refused (calls.Put key value) (Ok (Some (asks.Put key value))) is)
+  piece_cases (Ok (Some (asks.Put key value))) (inr is) = inr (refused (calls.Put key value) (Ok (Some (asks.Put key value))) (λ room. (key, value, refl, room)) is)
   piece_cases (Ok (Some (asks.Get key))) (inl is) = inl (answered (calls.Get key) (Ok (Some (asks.Get key))) refl refl is)
-  piece_cases (Ok (Some (asks.Get key))) (inr is) = inr (refused (calls.Get key) (Ok (Some (asks.Get key))) is)
+  piece_cases (Ok (Some (asks.Get key))) (inr is) = inr (refused (calls.Get key) (Ok (Some (asks.Get key))) (λ room. absurd room) is)
   piece_cases (Ok (Some (asks.Del key))) (inl is) = inl (answered (calls.Del key) (Ok (Some (asks.Del key))) refl refl is)
-  piece_cases (Ok (Some (asks.Del key))) (inr is) = inr (refused (calls.Del key) (Ok (Some (asks.Del key))) is)
+  piece_cases (Ok (Some (asks.Del key))) (inr is) = inr (refused (calls.Del key) (Ok (Some (asks.Del key))) (λ room. absurd room) is)
   piece_cases (Ok (Some (asks.Scan from to most))) is = scanned from to most is
   piece_cases (Ok (Some asks.Quit)) is = inl (told (text answers.Bye) (Ok (Some asks.Quit)) refl refl (inr (codes "BYE" ++ [], refl)) is)
   piece_cases (Err (faults.Fault fault)) is = inl (told (text (answers.Fault fault)) (Err (faults.Fault fault)) refl refl (inr (fault_ends fault)) is)
@@ -217,7 +234,7 @@ refusal_ends (refusals.Full (fulls.Crowded count hard why)) untold = (codes "FUL
 refusal_ends refusals.NoMemory untold = (codes "NOMEM" ++ [], refl)
 
 -- a first part of two texts is one of the first text, or that text and a first part of the second
-prefix_cases : (w a b : List ℕ) → IsPrefix w (a ++ b) → IsPrefix w a ⊎ ((rest : List ℕ) × (w ≡ a ++ rest) × IsPrefix rest b)
+pub prefix_cases : (w a b : List ℕ) → IsPrefix w (a ++ b) → IsPrefix w a ⊎ ((rest : List ℕ) × (w ≡ a ++ rest) × IsPrefix rest b)
 prefix_cases [] a b begins = inl (a, refl)
 prefix_cases (x ∷ w) [] b begins = inr (x ∷ w, refl, begins)
 prefix_cases (x ∷ w) (y ∷ a) b begins =
@@ -240,7 +257,7 @@ plain_more written plain more (inl begins) = inl (begins_more written plain more
 plain_more written plain more (inr torn) = inr (torn.0, torn.1, torn.2, torn.3, begins_more torn.0 plain more torn.4, torn.5)
 
 -- of one LF all is a first part, or nothing
-lf_cases : (last : List ℕ) → IsPrefix last (10 ∷ []) → (last ≡ []) ⊎ (last ≡ 10 ∷ [])
+pub lf_cases : (last : List ℕ) → IsPrefix last (10 ∷ []) → (last ≡ []) ⊎ (last ≡ 10 ∷ [])
 lf_cases [] begins = inl refl
 lf_cases (y ∷ []) begins =
     let whole : y ∷ begins.0 ≡ 10 ∷ [] = begins.1 in
