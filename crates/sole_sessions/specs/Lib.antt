@@ -1,0 +1,3 @@
+pub mod PlainHistory
+pub mod Rooms
+pub mod SoleSessions
