@@ -1,0 +1,7 @@
+mod Counting
+pub mod Filling
+pub mod MadeLines
+mod Requests
+mod Summing
+mod Tallying
+mod ToldRefusals

@@ -1,0 +1,13 @@
+//! Generated requests that are served as one session and summed up.
+#![tactic(auto)]
+
+mod fills;
+mod summary;
+mod tally;
+#[cfg(test)]
+mod tests;
+mod words;
+mod writes;
+
+pub use fills::{FillEnd, fill};
+pub use tally::Tally;
