@@ -1,2 +1,3 @@
-mod OneWord
-mod Running
+pub mod Rooms
+pub mod Running
+pub mod Filling

@@ -1,15 +1,18 @@
--- How a run ends.
-use Rattle.std.specs.Prelude.{◌≡◌, ◌⊎◌, ◌^◌, ℕ, true, List, [], ◌∷◌, codes, Option, Some, None}
+-- How commands end.
+use Rattle.std.specs.Prelude.{◌≡◌, ◌⊎◌, ◌<◌, ◌≤◌, ◌+◌, ◌*◌, ◌/◌, ◌^◌, ℕ, true, List, [], length, codes, Option, Some, None}
+use Rattle.counts.specs.Counts.{Rose}
+use Rattle.history_sizes.specs.Sizes.{new_keys, longest_new}
+use Rattle.line_protocol.specs.Served.{served}
 use Rattle.map_model.specs.History.{Entry, IsLegal}
+use Rattle.map_model.specs.declared.refusal.Refusal.{Refusal}
 use Rattle.outside.specs.Reading.{Told}
-use Rattle.session.specs.Plain.{PlainSession}
+use Rattle.row_words.specs.declared.shape.Shape.{Shape}
+use Rattle.session.specs.Plain.{HasLine, PlainSession, plain_output}
 use Rattle.session.specs.Sessions.{Session}
 use Rattle.session.specs.declared.session.SessionEnd.{SessionEnd}
 use Rattle.session.specs.declared.session.SessionEnd.TheVariants.{Quit, EndOfInput, ReadFault, WriteFault, NoMemory, Spent}
-
--- the words are the one word `run`
-abbrev pub IsRun : List (List ℕ) → Type 0
-IsRun words = words ≡ codes "run" ∷ []
+use Rattle.sole_sessions.specs.PlainHistory.{plain_history}
+use Rattle.solo_index.specs.Standing.{Fits}
 
 -- done, words that are no command, a read fault, a write fault, no memory, or an input that is too long
 abbrev pub IsStatus : ℕ → Type 0
@@ -32,16 +35,26 @@ most_bytes = 2 ^ 40
 abbrev pub IsNew : List Entry → Type 0
 IsNew history = history ≡ []
 
--- there is room for every history
-abbrev pub HasRoom : List Entry → Type 0
-HasRoom history = Unit {0}
+-- What one ordered map puts of these lines is within the numbers of a shape: so many keys may live, so many leaves may be made for them, and so many prefixes of anchors.
+pub record IsWithin (k : Shape) (lines : List (List ℕ)) : Type 0 where
+  pub keys : new_keys (plain_history lines) < k.values
+  pub leaves : 1 + new_keys (plain_history lines) / (k.soft / 2) ≤ k.leaves
+  pub prefixes : 1 + (new_keys (plain_history lines) / (k.soft / 2)) * longest_new (plain_history lines) ≤ k.items
+
+-- the whole plain output was written, unless memory was wanting
+abbrev pub IsComplete : ℕ → List ℕ → List ℕ → Type 0
+IsComplete status bytes output = ((status ≡ 0) × (output ≡ plain_output bytes)) ⊎ (status ≡ 5) ⊎ HasLine (codes "NOMEM") output
 
 -- What a run took and wrote.
-pub record Ran (status : ℕ) (told_before told_now : Option Told) (written_before written_now : Option (List ℕ)) : Type 0 where
-  -- a session of one map alone came to this end
+pub record Ran (k : Shape) (status : ℕ) (told_before told_now : Option Told) (written_before written_now : Option (List ℕ)) (reads_before reads_now writes_before writes_now : ℕ) : Type 0 where
+  -- a session of an index that is the only lane came to this end
   pub end : SessionEnd
   pub of_end : status ≡ status_of end
-  -- it grew a legal history from nothing, its output is the transcript, and no refusal was told but for want of memory
-  pub session : Session end most_bytes told_before told_now written_before written_now (Some 1) 0 true HasRoom 0 0 None None IsNew IsLegal
-  -- its output is what the map alone answers
+  -- it grew a legal history from nothing, its output is the transcript, and want of room was told only where there is none
+  pub refusals : ℕ
+  pub last : Option Refusal
+  pub session : Session end most_bytes told_before told_now written_before written_now (Some 1) 0 true (Fits k) 0 refusals None last IsNew IsLegal
+  -- where no line tells a refusal, its output is what one ordered map answers
   pub plain : PlainSession end most_bytes told_before told_now written_before written_now
+  -- and where nothing failed, the input had fewer bytes than the most, and what its lines put is within the shape, all of that was written unless memory was wanting
+  pub complete : (Rose reads_before reads_now → ⊥) → (Rose writes_before writes_now → ⊥) → length plain.bytes < most_bytes → IsWithin k (served plain.bytes true) → IsComplete status plain.bytes plain.output

@@ -1,7 +1,8 @@
-//! The program of Muslinscree: `worm run` answers the requests of standard input over an ordered map, on
-//! standard output.
+//! The program of Muslinscree: `worm run` answers the requests of standard input over an ordered index, on standard
+//! output, and `worm fill` answers requests that it makes and writes a summary.
 #![tactic(auto)]
 
+mod fills;
 mod script;
 #[cfg(test)]
 mod tests;

@@ -1,31 +1,45 @@
-//! A script of requests, served over a map of its own.
+//! A script of requests, served over an index of its own.
 ghost use Rattle.std.specs.Prelude.{◌≡◌, ◌≢◌};
 ghost use Rattle.counts.specs.Counts.{Rose};
+ghost use Rattle.row_words.specs.Shape.{IsShape};
 ghost use Rattle.worm.specs.Runs.{IsStatus, Ran, status_of};
 
 use crate::top::Outcome;
-use map_model::PlainMap;
 use outside::{Sink, Source};
-use session::{Bounded, SessionEnd, serve};
+use row_words::Shape;
+use session::SessionEnd;
+use sole_sessions::serve_sole;
+use solo_index::Solo;
 use std::alloc::Global;
 
 /// The most bytes of an input, which are 2^40.
 const MOST_BYTES: u64 = 1_099_511_627_776;
 
-/// Serves the lines of the source as one session, which begins with an empty map.
-pub fn run_script<S: Source, K: Sink>(alloc: Global, source: &mut S, sink: &mut K) -> Outcome
+/// Serves the lines of the source as one session, which begins with an empty index of this shape.
+pub fn run_script<S: Source, K: Sink>(
+    alloc: Global,
+    shape: &Shape,
+    source: &mut S,
+    sink: &mut K,
+) -> Outcome
+    requires { IsShape shape.now }
     ensures status { IsStatus result.status }
     ensures known { result.status ≢ 2 }
-    ensures ran { Ran result.status (S.told source.old) (S.told source.new) (K.written sink.old) (K.written sink.new) }
+    ensures ran { Ran shape.now result.status (S.told source.old) (S.told source.new)
+        (K.written sink.old) (K.written sink.new)
+        (S.faults source.old) (S.faults source.new) (K.faults sink.old) (K.faults sink.new) }
     ensures read_fault { result.status ≡ 3 → Rose (S.faults source.old) (S.faults source.new) }
     ensures write_fault { result.status ≡ 4 → Rose (K.faults sink.old) (K.faults sink.new) }
 {
-    let mut map = PlainMap::new(alloc);
-    // Nothing but want of memory refuses a call of the map, so that no call is made again.
-    let mut patience = Bounded(1);
-    let end = serve(alloc, &mut map, source, sink, &mut patience, MOST_BYTES);
-    Outcome {
-        status: status_of(end),
+    match Solo::make(alloc, shape) {
+        Ok(mut index) => {
+            let end = serve_sole(alloc, &mut index, source, sink, MOST_BYTES);
+            Outcome {
+                status: status_of(end),
+            }
+        }
+        // A shape that is one is refused for want of memory alone.
+        Err(_) => Outcome { status: 5 },
     }
 }
 

@@ -69,6 +69,15 @@ fn run(
     Ok((status, sink.bytes().to_vec(alloc)?))
 }
 
+// The status and the output of a command over an input.
+fn command(alloc: Global, texts: &[&str], script: &[u8]) -> Result<(u8, Vec<u8>), AllocError> {
+    let mut source = MemSource::new(alloc, script, 4096, &[])?;
+    let mut sink = MemSink::new(alloc, &[])?;
+    let words = words(alloc, texts)?;
+    let Outcome { status } = worm(alloc, &words, &mut source, &mut sink);
+    Ok((status, sink.bytes().to_vec(alloc)?))
+}
+
 fn repeated(
     alloc: Global,
     front: &[u8],
@@ -127,7 +136,16 @@ fn a_write_that_fails_ends_the_run(rt: HostRuntime) -> Result<(), Fail> {
 
 #[test]
 fn other_words_read_and_write_nothing(rt: HostRuntime) -> Result<(), Fail> {
-    let commands: [&[&str]; 5] = [&[], &["walk"], &["run", "extra"], &["Run"], &["run "]];
+    let commands: [&[&str]; 8] = [
+        &[],
+        &["walk"],
+        &["run", "extra"],
+        &["Run"],
+        &["run "],
+        &["run", "--soft", "3"],
+        &["run", "--lanes", "65"],
+        &["run", "--soft", "64", "--soft", "64"],
+    ];
     for command in commands {
         let mut source = MemSource::new(rt.alloc(), b"GET a\n", 9, &[])?;
         let mut sink = MemSink::new(rt.alloc(), &[])?;
@@ -136,6 +154,113 @@ fn other_words_read_and_write_nothing(rt: HostRuntime) -> Result<(), Fail> {
         assert_eq!(rt; source.read(&mut [0; 9]), Ok(6));
         assert_eq!(rt; sink.bytes().len(), 0);
     }
+    Ok(())
+}
+
+// Commands with shapes, their inputs, and the lines that answer them.
+const SHAPES: [(&[&str], &[u8], &[u8]); 2] = [
+    (
+        &["run", "--values", "2"],
+        b"PUT a 1\nPUT b 2\nPUT c 3\nPUT a 4\nDEL a\nPUT c 3\n",
+        b"NEW\nNEW\nFULL values 2 2\nFULL values 2 2\nGONE\nNEW\n",
+    ),
+    (
+        &[
+            "run",
+            "--leaves",
+            "1",
+            "--soft",
+            "2",
+            "--hard",
+            "3",
+            "--merge-sum",
+            "1",
+        ],
+        b"PUT a 1\nPUT b 1\nPUT c 1\nPUT d 1\nPUT a 9\nDEL a\nPUT d 1\n",
+        b"NEW\nNEW\nNEW\nFULL crowded 3 3\nSET\nGONE\nNEW\n",
+    ),
+];
+
+#[test]
+fn a_shape_bounds_what_is_put(rt: HostRuntime) -> Result<(), Fail> {
+    for (texts, script, want) in SHAPES {
+        let (status, output) = command(rt.alloc(), texts, script)?;
+        assert_eq!(rt; status, 0);
+        assert_eq!(rt; output.as_slice(), want);
+    }
+    Ok(())
+}
+
+// Fills, and what another program's map answered to the same lines.
+const FILLS: [(&[&str], &[u8]); 3] = [
+    (
+        &["fill", "1", "1"],
+        b"LINES 1\nNEW 1\nSET 0\nVALUE 0\nNONE 0\nGONE 0\nPAIR 0\nEND 0\nFULL 0\nNOMEM 0\n",
+    ),
+    (
+        &["fill", "1", "0"],
+        b"LINES 0\nNEW 0\nSET 0\nVALUE 0\nNONE 0\nGONE 0\nPAIR 0\nEND 0\nFULL 0\nNOMEM 0\n",
+    ),
+    (
+        &["fill", "7", "5000"],
+        b"LINES 5000\nNEW 2242\nSET 264\nVALUE 198\nNONE 1911\nGONE 74\nPAIR 6052\nEND 311\nFULL 0\nNOMEM 0\n",
+    ),
+];
+
+#[test]
+fn a_fill_writes_its_summary(rt: HostRuntime) -> Result<(), Fail> {
+    for (texts, want) in FILLS {
+        let (status, output) = command(rt.alloc(), texts, b"")?;
+        assert_eq!(rt; status, 0);
+        assert_eq!(rt; output.as_slice(), want);
+    }
+    Ok(())
+}
+
+// A web address.
+fn address(alloc: Global, i: u32) -> Result<String, AllocError> {
+    format!(in alloc; "http://host{:02}.example/path/{i:06}/index.html", i % 50)
+}
+
+// Puts of 5,000 addresses, gets of all but ten of them, and a scan of each of ten hosts; and the answers.
+fn addresses(alloc: Global) -> Result<(Vec<u8>, Vec<u8>), AllocError> {
+    let mut script = Vec::new(alloc);
+    let mut want = Vec::new(alloc);
+    for i in 0..5000u32 {
+        script.extend_from_slice(format!(in alloc;
+            "PUT {} {i}\n",
+            address(alloc, i)?
+        )?.as_bytes())?;
+        want.extend_from_slice(b"NEW\n")?;
+    }
+    for i in 0..4990u32 {
+        script.extend_from_slice(format!(in alloc; "GET {}\n", address(alloc, i)?)?.as_bytes())?;
+        want.extend_from_slice(format!(in alloc; "VALUE {i}\n")?.as_bytes())?;
+    }
+    for host in 0..10u32 {
+        let scan = format!(in alloc;
+            "SCAN http://host{host:02} http://host{:02} 200\n",
+            host + 1
+        )?;
+        script.extend_from_slice(scan.as_bytes())?;
+        for turn in 0..100u32 {
+            let i = turn * 50 + host;
+            want.extend_from_slice(format!(in alloc;
+                "PAIR {} {i}\n",
+                address(alloc, i)?
+            )?.as_bytes())?;
+        }
+        want.extend_from_slice(b"END 100\n")?;
+    }
+    Ok((script, want))
+}
+
+#[test]
+fn web_addresses_are_found_and_scanned(rt: HostRuntime) -> Result<(), Fail> {
+    let (script, want) = addresses(rt.alloc())?;
+    let (status, output) = run(rt.alloc(), &script, 4096, &[], &[])?;
+    assert_eq!(rt; status, 0);
+    assert!(rt; output == want);
     Ok(())
 }
 

@@ -1,9 +1,13 @@
 //! The program as a call over any source and sink.
-ghost use Rattle.std.specs.Prelude.{◌≡◌, ◌≢◌, ◌↔◌, IsTrue, map, string_bytes};
+ghost use Rattle.std.specs.Prelude.{◌≡◌, ◌≢◌, ◌↔◌, None, map, string_bytes};
+ghost use Rattle.command_line.specs.Commands.{command};
 ghost use Rattle.counts.specs.Counts.{Rose};
-ghost use Rattle.worm.specs.Runs.{IsRun, IsStatus, Ran};
+ghost use Rattle.worm.specs.Commands.{Did};
+ghost use Rattle.worm.specs.Runs.{IsStatus};
 
+use crate::fills::run_fill;
 use crate::script::run_script;
+use command_line::{Command, read_command};
 use outside::{Sink, Source};
 use std::alloc::Global;
 
@@ -22,34 +26,31 @@ pub struct Outcome {
     pub status: u8,
 }
 
-/// Carries out the command of these words, which are those after the program's name. The only command is `run`.
+/// Carries out the command of these words, which are those after the program's name.
 pub fn worm<S: Source, K: Sink>(
     alloc: Global,
     words: &Vec<String>,
     source: &mut S,
     sink: &mut K,
 ) -> Outcome
-    ensures words { (result.status ≡ 2) ↔ (¬ IsRun (map string_bytes words.now.items)) }
+    ensures words { (result.status ≡ 2) ↔ (command (map string_bytes words.now.items) ≡ None) }
     ensures untouched { result.status ≡ 2 → (source.new ≡ source.old) × (sink.new ≡ sink.old) }
     ensures status { IsStatus result.status }
-    ensures ran { result.status ≢ 2 → Ran result.status (S.told source.old) (S.told source.new)
-        (K.written sink.old) (K.written sink.new) }
+    ensures did { Did (command (map string_bytes words.now.items)) result.status
+        (S.told source.old) (S.told source.new) (K.written sink.old) (K.written sink.new)
+        (S.faults source.old) (S.faults source.new) (K.faults sink.old) (K.faults sink.new) }
     ensures read_fault { result.status ≡ 3 → Rose (S.faults source.old) (S.faults source.new) }
     ensures write_fault { result.status ≡ 4 → Rose (K.faults sink.old) (K.faults sink.new) }
 {
-    if is_run(words) {
-        run_script(alloc, source, sink)
-    } else {
-        Outcome { status: 2 }
-    }
-}
-
-/// Whether the words are the one word `run`.
-fn is_run(words: &[String]) -> bool
-    ensures { IsTrue result ↔ IsRun (map string_bytes words.now) }
-{
-    match words {
-        [word] => word.as_str() == "run",
-        _ => false,
+    match read_command(words) {
+        None => Outcome { status: 2 },
+        Some(Command::Run { shape }) => run_script(alloc, &shape, source, sink),
+        Some(
+            Command::Fill {
+                number,
+                count,
+                shape,
+            },
+        ) => run_fill(alloc, &shape, number, count, sink),
     }
 }

@@ -1,0 +1,40 @@
+-- How a fill ends.
+use Rattle.std.specs.Prelude.{◌≡◌, ℕ, true, List, codes, Option, None}
+use Rattle.fill_runs.specs.Fills as fills
+use Rattle.fill_runs.specs.Summary.{counted, summary}
+use Rattle.fill_runs.specs.declared.fills.FillEnd.{FillEnd}
+use Rattle.fill_runs.specs.declared.fills.FillEnd.TheVariants.{Done, WriteFault, NoMemory}
+use Rattle.generated_lines.specs.Generator.{made, generated}
+use Rattle.map_model.specs.History.{IsLegal}
+use Rattle.map_model.specs.declared.refusal.Refusal.{Refusal}
+use Rattle.outside.specs.Writing.{Wrote}
+use Rattle.row_words.specs.declared.shape.Shape.{Shape}
+use Rattle.session.specs.Plain.{plain_output}
+use Rattle.solo_index.specs.Standing.{Fits}
+use Rattle.worm.specs.Runs.{IsNew, IsWithin}
+
+-- the status of a fill's end
+abbrev pub fill_status : FillEnd → ℕ
+fill_status Done = 0
+fill_status WriteFault = 4
+fill_status NoMemory = 5
+
+-- The summary of an output was written.
+pub record HasSummary (k : Shape) (number count : ℕ) (written_before written_now : Option (List ℕ)) : Type 0 where
+  pub output : List ℕ
+  pub wrote : Wrote written_before written_now (summary count output)
+  -- where no line of it tells want of room or of memory, it is what one ordered map answers
+  pub plain : counted (codes "FULL") output ≡ 0 → counted (codes "NOMEM") output ≡ 0 → output ≡ plain_output (generated number count)
+  -- and so it is where what the made lines put is within the shape, and no line tells want of memory
+  pub complete : IsWithin k (made number count) → counted (codes "NOMEM") output ≡ 0 → output ≡ plain_output (generated number count)
+
+-- What a fill made and wrote.
+pub record Filled (k : Shape) (number count status : ℕ) (written_before written_now : Option (List ℕ)) : Type 0 where
+  -- a fill of an index that is the only lane came to this end
+  pub end : FillEnd
+  pub of_end : status ≡ fill_status end
+  -- it grew a legal history from nothing, the output that it summed up is the transcript, and want of room was told only where there is none
+  pub refusals : ℕ
+  pub last : Option Refusal
+  pub served : fills.Filled end number count written_before written_now 0 true (Fits k) 0 refusals None last IsNew IsLegal
+  pub summed : status ≡ 0 → HasSummary k number count written_before written_now

@@ -1,0 +1,49 @@
+//! Generated requests, served over an index of their own.
+ghost use Rattle.std.specs.Prelude.{◌≡◌, ◌⊎◌};
+ghost use Rattle.counts.specs.Counts.{Rose};
+ghost use Rattle.row_words.specs.Shape.{IsShape};
+ghost use Rattle.worm.specs.Fills.{Filled, fill_status};
+
+use crate::top::Outcome;
+use fill_runs::{FillEnd, fill};
+use outside::Sink;
+use row_words::Shape;
+use solo_index::Solo;
+use std::alloc::Global;
+
+/// Serves the lines that a number and a count make as one session, which begins with an empty index of this shape,
+/// and writes the summary of its replies.
+pub fn run_fill<K: Sink>(
+    alloc: Global,
+    shape: &Shape,
+    number: u64,
+    count: u32,
+    sink: &mut K,
+) -> Outcome
+    requires { IsShape shape.now }
+    ensures status { (result.status ≡ 0) ⊎ (result.status ≡ 4) ⊎ (result.status ≡ 5) }
+    ensures filled { Filled shape.now number count result.status (K.written sink.old) (K.written sink.new) }
+    ensures write_fault { result.status ≡ 4 → Rose (K.faults sink.old) (K.faults sink.new) }
+{
+    match Solo::make(alloc, shape) {
+        Ok(mut index) => {
+            let end = fill(alloc, &mut index, number, count, sink);
+            Outcome {
+                status: status_of(end),
+            }
+        }
+        // A shape that is one is refused for want of memory alone.
+        Err(_) => Outcome { status: 5 },
+    }
+}
+
+/// The status that tells of a fill's end.
+fn status_of(end: FillEnd) -> u8
+    ensures { result ≡ fill_status end }
+{
+    match end {
+        FillEnd::Done => 0,
+        FillEnd::WriteFault => 4,
+        FillEnd::NoMemory => 5,
+    }
+}
