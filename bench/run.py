@@ -14,7 +14,7 @@ import subprocess
 import sys
 import time
 
-from scripts import write_scripts
+from scripts import SCRIPTS, write_scripts
 
 HERE = os.path.dirname(os.path.abspath(__file__))
 TOP = os.path.dirname(HERE)
@@ -119,10 +119,11 @@ def main():
     print("| script | on | worm, s | strays | peer, s | strays | worm / peer, clock | worm / peer, processor |")
     print("|---|---|---|---|---|---|---|---|", flush=True)
     for name, script in scripts.items():
+        _, options = SCRIPTS[name]
         for way, timed in (("files", on_files), ("pipes", on_pipes)):
             times = {"worm": [], "peer": []}
             for _ in range(rounds):
-                times["worm"].append(timed(worm, script, outputs["worm"]))
+                times["worm"].append(timed(worm + options, script, outputs["worm"]))
                 times["peer"].append(timed(peer, script, outputs["peer"]))
                 if not filecmp.cmp(outputs["worm"], outputs["peer"], shallow=False):
                     end(f"the outputs of {name} on {way} differ: {outputs['worm']}, {outputs['peer']}")

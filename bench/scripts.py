@@ -7,8 +7,15 @@ import sys
 
 START = 1
 KEYS = 65_536
+# One less than the most values of an index: while it holds as many as that it takes no put.
+MANY_KEYS = 262_143
 LINES = 1_000_000
 SCANS = 2_000
+
+# Shapes with room for all keys of a script. The words of the narrow one take 1.3 MB, those of the standard one 18 MB.
+NARROW = ["--leaves", "512", "--items", "16384", "--heads", "8192"]
+WIDE = ["--values", "131072"]
+WIDEST = ["--values", "262144", "--leaves", "16384", "--items", "1048576"]
 
 
 def numbers(start):
@@ -19,16 +26,17 @@ def numbers(start):
         yield x >> 32
 
 
+def address(i):
+    """A web address of 44 bytes."""
+    return f"http://host{i % 50:02}.example/path/{i:06}/index.html"
+
+
 def web_addresses():
-    """5,000 puts, 4,990 gets and 10 scans over web addresses of 44 bytes, 10,000 lines."""
-
-    def key(i):
-        return f"http://host{i % 50:02}.example/path/{i:06}/index.html"
-
+    """5,000 puts, 4,990 gets and 10 scans over web addresses, 10,000 lines."""
     for i in range(5_000):
-        yield f"PUT {key(i)} {i}"
+        yield f"PUT {address(i)} {i}"
     for i in range(4_990):
-        yield f"GET {key(i)}"
+        yield f"GET {address(i)}"
     for host in range(10):
         yield f"SCAN http://host{host:02} http://host{host + 1:02} 200"
 
@@ -60,10 +68,37 @@ def scans():
         yield f"SCAN {item(number)} * {1 + (number >> 16) % 1_000}"
 
 
+def gets(keys):
+    """Each of so many web addresses is put once, out of order, and then a million are got."""
+    draw = numbers(START)
+    for i in range(keys):
+        # 40,507 has no divisor in common with either number of keys, so each comes once.
+        yield f"PUT {address(i * 40_507 % keys)} value-{i:018}"
+    for _ in range(LINES):
+        yield f"GET {address(next(draw) % keys)}"
+
+
+def puts(keys):
+    """A million lines, of which nine in ten put a value of 24 bytes and the others get one, over so many web addresses."""
+    draw = numbers(START)
+    for i in range(LINES):
+        number = next(draw)
+        if number >> 16 & 1_023 < 922:
+            yield f"PUT {address(number % keys)} value-{i:018}"
+        else:
+            yield f"GET {address(number % keys)}"
+
+
+# What makes the lines of each script, and the options of `worm run` for it.
 SCRIPTS = {
-    "web_addresses": web_addresses,
-    "puts_and_gets": puts_and_gets,
-    "scans": scans,
+    "web_addresses": (web_addresses, []),
+    "web_addresses_narrow": (web_addresses, NARROW),
+    "puts_and_gets": (puts_and_gets, WIDE),
+    "scans": (scans, WIDE),
+    "gets": (lambda: gets(KEYS), WIDE),
+    "puts": (lambda: puts(KEYS), WIDE),
+    "many_gets": (lambda: gets(MANY_KEYS), WIDEST),
+    "many_puts": (lambda: puts(MANY_KEYS), WIDEST),
 }
 
 
@@ -71,7 +106,7 @@ def write_scripts(folder):
     """Writes each script that isn't there yet, and answers their paths by name."""
     os.makedirs(folder, exist_ok=True)
     paths = {}
-    for name, lines in SCRIPTS.items():
+    for name, (lines, _) in SCRIPTS.items():
         path = os.path.join(folder, name + ".txt")
         if not os.path.exists(path):
             with open(path + ".part", "w", newline="\n") as file:
