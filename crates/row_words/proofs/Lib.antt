@@ -2,3 +2,5 @@ pub mod Digits
 pub mod Packed
 pub mod Beginnings
 pub mod ItemNames
+pub mod Padding
+pub mod ShortWords

@@ -2,4 +2,5 @@ pub mod Bytes
 pub mod Shape
 pub mod Layout
 pub mod Decode
+pub mod Padded
 pub mod VecRows

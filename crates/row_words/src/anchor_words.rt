@@ -100,7 +100,7 @@ pub(crate) fn whole_word(bytes: &[u8], from: usize) -> u64
 }
 
 /// The four bytes from a place on, the first one lowest.
-fn whole_four(bytes: &[u8], from: usize) -> u32
+pub(crate) fn whole_four(bytes: &[u8], from: usize) -> u32
     requires { from + 4 ≤ length bytes.now }
     ensures first { result % 256 ≡ slice_index bytes.now from }
     ensures second { result / 256 % 256 ≡ slice_index bytes.now (from + 1) }

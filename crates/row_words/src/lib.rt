@@ -1,9 +1,10 @@
 //! The words of one table of rows: their layout, what may read and write them, and a table that
-//! lies in a vector.
+//! lies in vectors.
 #![tactic(auto)]
 
 mod anchor_words;
 mod leaves;
+mod padded_words;
 mod probes;
 mod rows;
 mod shape;

@@ -1,12 +1,10 @@
 //! A look at one item.
 
-ghost use Rattle.std.specs.Prelude.{◌≡◌, ◌<◌, ◌≤◌, ◌+◌, length, slice_index};
-ghost use Rattle.row_words.specs.Layout.{word_count};
-ghost use Rattle.row_words.specs.Shape.{IsShape};
+ghost use Rattle.std.specs.Prelude.{◌≡◌, ◌+◌};
 ghost use Rattle.row_words.specs.Decode.{IsUsed, Probed};
 
 use crate::words::begins;
-use crate::{ItemRow, Probe, Shape, Words};
+use crate::{ItemRow, Probe, Words};
 use std::sync::ledger::Ledger;
 use steps::Steps;
 
@@ -14,37 +12,31 @@ use steps::Steps;
 /// Only where hash and length agree are bytes compared.
 pub fn probe_words<W: Words, L: Ledger>(
     words: &mut W,
-    shape: &Shape,
     at: u32,
     prefix: &[u8],
     hash: u64,
     steps: &mut Steps<L>,
 ) -> Probe
-    requires shape { IsShape shape.now }
-    requires sized { length (W.words words.old) ≡ word_count shape.now }
-    requires used { IsUsed shape.now (W.words words.old) at }
-    ensures value { Probed shape.now (W.words words.old) at prefix.now hash result }
+    requires used { IsUsed (W.shape words.old) (W.words words.old) at }
+    ensures value { Probed (W.shape words.old) (W.words words.old) at prefix.now hash result }
     ensures steps { steps.new ≡ steps.old + 1 }
     ensures words { W.words words.new ≡ W.words words.old }
+    ensures shape { W.shape words.new ≡ W.shape words.old }
     ensures stays { W.stays words.old words.new }
 {
     steps.tick();
-    let base = shape.item_word(at);
-    let found = words.load(base);
-    let link = words.load(base + 1);
-    let sides = words.load(base + 2);
+    let [found, link, sides] = words.item_head(at);
     let next = (link % 4_294_967_296) as u32;
     let len = (link / 4_294_967_296 % 65_536) as u32;
     let leftmost = (sides % 4_294_967_296) as u32;
     if found != hash || len as usize != prefix.len() {
         return Probe::Other { next };
     }
-    let row = shape.leaf_word(leftmost);
-    let mark = words.load(row);
+    let mark = words.leaf_part(leftmost, 0);
     if len as u64 > mark - 1 {
         return Probe::Other { next };
     }
-    if !begins(words, row + 1, prefix) {
+    if !begins(words, leftmost, prefix) {
         return Probe::Other { next };
     }
     Probe::Same(ItemRow {
@@ -53,11 +45,6 @@ pub fn probe_words<W: Words, L: Ledger>(
         is_anchor: link / 281_474_976_710_656 % 2 == 1,
         leftmost,
         rightmost: (sides / 4_294_967_296) as u32,
-        bits: [
-            words.load(base + 3),
-            words.load(base + 4),
-            words.load(base + 5),
-            words.load(base + 6),
-        ],
+        bits: words.item_bits(at),
     })
 }

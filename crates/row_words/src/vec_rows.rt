@@ -1,27 +1,40 @@
-//! A table in a vector.
+//! A table in vectors.
 
 ghost use Rattle.std.specs.Prelude.{◌≡◌, ◌<◌, ◌+◌, ◌*◌, IfOk, length, replicate};
 ghost use Rattle.row_words.specs.Layout.{word_count};
 ghost use Rattle.row_words.specs.Shape.{IsShape};
 
+use crate::padded_words::PaddedWords;
 use crate::{ItemRow, LeafRow, Probe, Rows, RowsMut, Shape, Words, leaf_words, probe_words};
 use std::alloc::{AllocError, Global};
 use std::sync::ledger::Ledger;
 use steps::Steps;
 
-/// A table in a vector.
+/// A table in vectors. When it is made, memory for all of its words is reserved, and only the header
+/// and the heads are written: eight bytes for each bucket. A page of the items, and one of the leaf
+/// rows, is touched when a word other than 0 is written in it, or behind it in the same vector: up to
+/// that word the vector is filled with zeros. So an item or a leaf costs memory once one at its place
+/// or at a greater one is first used, and where places are used from the least on, a write fills a few
+/// words at most. A word that was never written is read as 0, without a look at memory.
 #[derive(Debug, Drop)]
 pub struct VecRows {
     shape: Shape,
-    words: Vec<u64>,
+    // The header and the heads.
+    front: Vec<u64>,
+    items: PaddedWords,
+    leaves: PaddedWords,
     ghost ranges: { IsShape shape },
-    ghost sized: { length words.items ≡ word_count shape },
+    ghost front_sized: { length front.items ≡ 4 + shape.heads },
+    ghost items_sized: { length items ≡ 8 * shape.items },
+    ghost leaves_sized: { length leaves ≡ 35 * shape.leaves },
 }
 
+#[tactic(auto, unfolding(crate::specs::VecRows::joined))]
 impl VecRows {
     ghost use Rattle.row_words.specs.VecRows.{shape_of, words_of};
 
-    /// A table whose words are all 0. Its size is that of the shape: eight bytes a word.
+    /// A table whose words are all 0. It reserves eight bytes for each word of the shape, and writes
+    /// the header and the heads alone.
     pub fn new(alloc: Global, shape: &Shape) -> Result<VecRows, AllocError>
         requires { IsShape shape.now }
         ensures shape { IfOk result (λ rows. shape_of rows ≡ shape.now) }
@@ -29,16 +42,21 @@ impl VecRows {
     {
         Ok(VecRows {
             shape: *shape,
-            words: vec![in alloc; 0; shape.word_count() as usize]?,
+            front: vec![in alloc; 0; 4 + shape.heads as usize]?,
+            items: PaddedWords::new(alloc, 8 * shape.items as usize)?,
+            leaves: PaddedWords::new(alloc, 35 * shape.leaves as usize)?,
         })
     }
 }
 
+#[tactic(auto, unfolding(crate::specs::VecRows::joined))]
 impl Words for VecRows {
     ghost use Rattle.row_words.specs.declared.vec_rows.VecRows.{VecRows};
     ghost use Rattle.row_words.specs.VecRows.{shape_of, words_of};
     ghost use Rattle.std.specs.Prelude.{◌≡◌, refl};
     ghost use Rattle.std.proofs.Common.{◌∙◌};
+
+    ghost shape = { shape_of };
 
     ghost words = { words_of };
 
@@ -48,13 +66,22 @@ impl Words for VecRows {
 
     ghost stays_trans = { λ a b c p q. q ∙ p };
 
-    fn load(&mut self, i: u32) -> u64 {
-        self.words[i as usize]
+    fn item_head(&mut self, at: u32) -> [u64; 3] {
+        self.items.three(8 * at as usize)
+    }
+
+    fn item_bits(&mut self, at: u32) -> [u64; 4] {
+        self.items.four(8 * at as usize + 3)
+    }
+
+    fn leaf_part(&mut self, leaf: u32, word: u32) -> u64 {
+        self.leaves.get((35 * leaf + word) as usize)
     }
 }
 
+#[tactic(auto, unfolding(crate::specs::VecRows::joined))]
 impl Rows for VecRows {
-    ghost use Rattle.row_words.specs.VecRows.{shape_of, words_of};
+    ghost use Rattle.row_words.specs.VecRows.{shape_of, words_of, length-words_of};
     ghost use Rattle.std.specs.Prelude.{◌≡◌, refl};
     ghost use Rattle.std.proofs.Common.{◌∙◌};
 
@@ -66,7 +93,7 @@ impl Rows for VecRows {
 
     ghost ranges = { λ a. a.ranges };
 
-    ghost sized = { λ a. a.sized };
+    ghost sized = { length-words_of };
 
     ghost stays_refl = { λ a. refl };
 
@@ -81,11 +108,11 @@ impl Rows for VecRows {
     }
 
     fn longest(&mut self) -> u32 {
-        (self.words[0] % 4_294_967_296) as u32
+        (self.front[0] % 4_294_967_296) as u32
     }
 
     fn head(&mut self, bucket: u32) -> u32 {
-        (self.words[4 + bucket as usize] % 4_294_967_296) as u32
+        (self.front[4 + bucket as usize] % 4_294_967_296) as u32
     }
 
     fn probe<L: Ledger>(
@@ -95,27 +122,42 @@ impl Rows for VecRows {
         hash: u64,
         steps: &mut Steps<L>,
     ) -> Probe {
-        let shape = self.shape;
-        probe_words(self, &shape, at, prefix, hash, steps)
+        probe_words(self, at, prefix, hash, steps)
     }
 
     fn leaf<L: Ledger>(&mut self, at: u32, steps: &mut Steps<L>) -> LeafRow {
-        let shape = self.shape;
-        leaf_words(self, &shape, at, steps)
+        leaf_words(self, at, steps)
     }
 }
 
+#[tactic(auto, unfolding(crate::specs::VecRows::joined))]
 impl RowsMut for VecRows {
     fn layout(&self) -> Shape {
         self.shape
     }
 
     fn word(&mut self, i: u32) -> u64 {
-        self.words[i as usize]
+        let front = 4 + self.shape.heads;
+        let items = 8 * self.shape.items;
+        if i < front {
+            self.front[i as usize]
+        } else if i - front < items {
+            self.items.get((i - front) as usize)
+        } else {
+            self.leaves.get((i - front - items) as usize)
+        }
     }
 
     fn set_word(&mut self, i: u32, word: u64) {
-        self.words[i as usize] = word;
+        let front = 4 + self.shape.heads;
+        let items = 8 * self.shape.items;
+        if i < front {
+            self.front[i as usize] = word;
+        } else if i - front < items {
+            self.items.set((i - front) as usize, word);
+        } else {
+            self.leaves.set((i - front - items) as usize, word);
+        }
     }
 }
 
@@ -138,7 +180,8 @@ mod tests {
         salt: 5,
     };
 
-    // A leaf's row by hand: the anchor `Jo`, no leaf before it, leaf 0 behind it.
+    // A leaf's row by hand: the anchor `Jo`, no leaf before it, leaf 0 behind it. No word of the item is
+    // written.
     #[test]
     fn reads_a_row(rt: HostRuntime) -> Result<(), Fail> {
         let mut rows = VecRows::new(rt.alloc(), &SMALL)?;
@@ -146,11 +189,26 @@ mod tests {
         assert_eq!(rt; rows.heads(), 1);
         assert_eq!(rt; rows.salt(), 5);
         for (i, word) in [(0, 2), (4, 1), (48, 3), (49, 0x6f4a), (82, 1)] {
+            put(&mut rows, i, word);
+        }
+        assert_eq!(rt; rows.longest(), 2);
+        assert_eq!(rt; got(&mut rows, 49), 28_490);
+        assert_eq!(rt; got(&mut rows, 9), 0);
+        Ok(())
+    }
+
+    fn put(rows: &mut VecRows, i: u32, word: u64) {
+        if i < rows.layout().word_count() {
             rows.set_word(i, word);
         }
-        assert_eq!(rt; rows.word(49), 28_490);
-        assert_eq!(rt; rows.longest(), 2);
-        assert_eq!(rt; rows.head(0), 1);
-        Ok(())
+    }
+
+    // The word, or a number that no word of the test has.
+    fn got(rows: &mut VecRows, i: u32) -> u64 {
+        if i < rows.layout().word_count() {
+            rows.word(i)
+        } else {
+            7
+        }
     }
 }

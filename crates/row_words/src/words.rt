@@ -1,25 +1,52 @@
 //! Words that can be read, wherever they lie.
 
-ghost use Rattle.std.specs.Prelude.{◌≡◌, ◌<◌, ◌≤◌, ◌+◌, ◌*◌, ◌/◌, ◌%◌, ◌^◌, ◌↔◌, ℕ, IsTrue, length, slice_index};
+ghost use Rattle.std.specs.Prelude.{◌≡◌, ◌<◌, ◌≤◌, ◌+◌, ◌*◌, ◌/◌, ◌^◌, ◌%◌, ◌↔◌, ℕ, IsTrue, length, slice_index};
 ghost use Rattle.row_words.specs.Bytes.{bytes_from};
+ghost use Rattle.row_words.specs.Layout.{leaf_word};
 
-use crate::anchor_words::whole_word;
+use crate::anchor_words::{whole_four, whole_word};
 
-/// Words that can be read one by one. Who has them has the two looks of a reader of rows:
-/// [`crate::probe_words`] and [`crate::leaf_words`]. No call changes a word, and each tells what `stays`.
+/// Items and leaf rows whose words can be read. Who has them has the two looks of a reader of rows:
+/// [`crate::probe_words`] and [`crate::leaf_words`]. Words are named by their row, so that a table whose
+/// items and leaf rows lie apart needn't find out which it is, and those of an item that are always
+/// read together are read by one call. No call changes a word, and each tells what `stays`.
 pub trait Words {
-    ghost use Rattle.std.specs.Prelude.{List, ℕ, ◌≡◌, length, slice_index};
+    ghost use Rattle.std.specs.Prelude.{List, [], ◌∷◌, ℕ, ◌≡◌, ◌<◌, ◌+◌, slice_index};
+    ghost use Rattle.row_words.specs.declared.shape.Shape.{Shape};
+    ghost use Rattle.row_words.specs.Layout.{item_word, leaf_word};
+    ghost use Rattle.row_words.specs.Decode.{item_at};
+
+    ghost shape: { Self → Shape };
 
     ghost words: { Self → List ℕ };
 
-    // What each call leaves as it is beside the words.
+    // What each call leaves as it is beside the words and the shape.
     ghost stays: { Self → Self → Type 0 };
 
-    /// The word at a place.
-    fn load(&mut self, i: u32) -> u64
-        requires { i < length (words self.old) }
-        ensures value { result ≡ slice_index (words self.old) i }
+    /// The first three words of the item at a place: those of its hash, of its link and length, and of
+    /// its leaves.
+    fn item_head(&mut self, at: u32) -> [u64; 3]
+        requires { at < (shape self.old).items }
+        ensures value { result ≡ slice_index (words self.old) (item_word (shape self.old) at) ∷ slice_index (words self.old) (item_word (shape self.old) at + 1) ∷ slice_index (words self.old) (item_word (shape self.old) at + 2) ∷ [] }
         ensures words { words self.new ≡ words self.old }
+        ensures shape { shape self.new ≡ shape self.old }
+        ensures stays { stays self.old self.new };
+
+    /// The four words of the item at a place that say which bytes may follow.
+    fn item_bits(&mut self, at: u32) -> [u64; 4]
+        requires { at < (shape self.old).items }
+        ensures value { result ≡ (item_at (shape self.old) (words self.old) at).bits }
+        ensures words { words self.new ≡ words self.old }
+        ensures shape { shape self.new ≡ shape self.old }
+        ensures stays { stays self.old self.new };
+
+    /// A word of a leaf's row.
+    fn leaf_part(&mut self, leaf: u32, word: u32) -> u64
+        requires leaf { leaf < (shape self.old).leaves }
+        requires word { word < 35 }
+        ensures value { result ≡ slice_index (words self.old) (leaf_word (shape self.old) leaf + word) }
+        ensures words { words self.new ≡ words self.old }
+        ensures shape { shape self.new ≡ shape self.old }
         ensures stays { stays self.old self.new };
 
     ghost stays_refl: { (a : Self) → stays a a };
@@ -27,35 +54,57 @@ pub trait Words {
     ghost stays_trans: { (a b c : Self) → stays a b → stays b c → stays a c };
 }
 
-/// Whether the bytes of the words from a place on begin with these. Eight bytes are compared at a
-/// time, as one word.
-pub(crate) fn begins<W: Words>(words: &mut W, from: u32, bytes: &[u8]) -> bool
-    requires room { from + 32 ≤ length (W.words words.old) }
-    requires small { from + 256 < 4294967296 }
+/// Whether the bytes of a leaf's row begin with these. Eight bytes are compared at a time, as one word.
+pub(crate) fn begins<W: Words>(words: &mut W, leaf: u32, bytes: &[u8]) -> bool
+    requires leaf { leaf < (W.shape words.old).leaves }
     requires short { length bytes.now < 256 }
-    ensures value { IsTrue result ↔ (bytes_from (W.words words.old) from (length bytes.now) ≡ bytes.now) }
+    ensures value { IsTrue result ↔ (bytes_from (W.words words.old) (leaf_word (W.shape words.old) leaf + 1) (length bytes.now) ≡ bytes.now) }
     ensures words { W.words words.new ≡ W.words words.old }
+    ensures shape { W.shape words.new ≡ W.shape words.old }
     ensures stays { W.stays words.old words.new }
 {
     let whole = bytes.len() / 8;
     for i in 0..whole {
-        if words.load(from + i as u32) != whole_word(bytes, 8 * i) {
+        if words.leaf_part(leaf, 1 + i as u32) != whole_word(bytes, 8 * i) {
             return false;
         }
     }
-    let last = words.load(from + whole as u32);
+    let last = words.leaf_part(leaf, 1 + whole as u32);
     word_begins(last, &bytes[8 * whole..])
 }
 
-/// Whether the bytes of a word begin with these, which are fewer.
+/// Whether the bytes of a word begin with these, which are fewer. Four or two of them are compared at a
+/// time, and the second look may have bytes of the first again.
 fn word_begins(word: u64, bytes: &[u8]) -> bool
     requires { length bytes.now < 8 }
     ensures { IsTrue result ↔ ((j : ℕ) → j < length bytes.now → word / 2 ^ (8 * j) % 256 ≡ slice_index bytes.now j) }
 {
-    for (j, x) in bytes.iter().enumerate() {
-        if ((word >> (8 * j as u32)) & 0xff) as u8 != *x {
-            return false;
-        }
+    let len = bytes.len();
+    if len >= 4 {
+        return four_are(word, bytes, 0) && four_are(word, bytes, len - 4);
     }
-    true
+    if len >= 2 {
+        return two_are(word, bytes, 0) && two_are(word, bytes, len - 2);
+    }
+    len == 0 || (word % 256) as u8 == bytes[0]
+}
+
+/// Whether four bytes from a place on are those at the same places of a word.
+fn four_are(word: u64, bytes: &[u8], from: usize) -> bool
+    requires within { from + 4 ≤ length bytes.now }
+    requires short { length bytes.now < 8 }
+    ensures { IsTrue result ↔ ((j : ℕ) → j < 4 → word / 2 ^ (8 * (from + j)) % 256 ≡ slice_index bytes.now (from + j)) }
+{
+    let part = (word >> (8 * from as u32)) % 4_294_967_296;
+    part as u32 == whole_four(bytes, from)
+}
+
+/// Whether two bytes from a place on are those at the same places of a word.
+fn two_are(word: u64, bytes: &[u8], from: usize) -> bool
+    requires within { from + 2 ≤ length bytes.now }
+    requires short { length bytes.now < 8 }
+    ensures { IsTrue result ↔ ((j : ℕ) → j < 2 → word / 2 ^ (8 * (from + j)) % 256 ≡ slice_index bytes.now (from + j)) }
+{
+    let part = (word >> (8 * from as u32)) % 65_536;
+    part as u32 == bytes[from] as u32 + bytes[from + 1] as u32 * 256
 }

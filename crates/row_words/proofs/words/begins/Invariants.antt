@@ -1,10 +1,12 @@
-use Rattle.std.proofs.Common.{◌≡◌, ◌<◌, ◌*◌, ℕ, get_or}
+use Rattle.std.proofs.Common.{◌≡◌, ◌<◌, ◌+◌, ◌*◌, ℕ, get_or}
 use Rattle.row_words.specs.Bytes.{byte_at}
+use Rattle.row_words.specs.Layout.{leaf_word}
 use Rattle.row_words.proofs.words.begins.Given as goal
 
 abbrev pub invariant-loop-i : goal.invariant-loop-i
 invariant-loop-i g l = record {
   words : g.W.Words.words l.words ≡ g.W.Words.words l.fn.words;
+  shape : g.W.Words.shape l.words ≡ g.W.Words.shape l.fn.words;
   stays : g.W.Words.stays l.fn.words l.words;
-  same : (j : ℕ) → j < 8 * l.i → byte_at (g.W.Words.words l.fn.words) l.from j ≡ get_or l.bytes j 0;
+  same : (j : ℕ) → j < 8 * l.i → byte_at (g.W.Words.words l.fn.words) (leaf_word (g.W.Words.shape l.fn.words) l.leaf + 1) j ≡ get_or l.bytes j 0;
 }
