@@ -1,5 +1,5 @@
 -- Tags with places, as a list.
-use Rattle.std.specs.Prelude.{ℕ, ◌*◌, ◌/◌, ◌<◌, ◌≤◌, List, length, slice_index_or, filter, nat_lt}
+use Rattle.std.specs.Prelude.{ℕ, ◌-◌, ◌*◌, ◌/◌, ◌<◌, ◌≤◌, List, length, slice_index_or, filter, map, not, nat_lt}
 use Rattle.std.specs.List.Sorted.{IsNonDecreasingBy}
 
 -- the pairs of a tag and a place, and the number of pairs for which there is room
@@ -18,6 +18,10 @@ first_place tag count = tag * count / 65536
 -- the pairs whose place is below a number
 abbrev pub places_below : ℕ → List (ℕ × ℕ) → List (ℕ × ℕ)
 places_below count pairs = filter (λ (p : ℕ × ℕ). nat_lt p.1 count) pairs
+
+-- the other pairs, each with its place less that number
+abbrev pub places_from : ℕ → List (ℕ × ℕ) → List (ℕ × ℕ)
+places_from count pairs = map (λ (p : ℕ × ℕ). (p.0, p.1 - count)) (filter (λ (p : ℕ × ℕ). not (nat_lt p.1 count)) pairs)
 
 -- the pairs before place i have lower tags, the others don't
 pub record IsCut (pairs : List (ℕ × ℕ)) (tag i : ℕ) : Type 0 where

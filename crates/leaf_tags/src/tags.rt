@@ -2,7 +2,7 @@
 ghost use Rattle.std.specs.Prelude.{◌≡◌, ℕ, ◌+◌, ◌<◌, ◌≤◌, ◌⊎◌, List, ◌∷◌, [], true, false, length, slice_index_or, MatchOption, OnOk, IsOk, Some};
 ghost use Rattle.std.specs.List.{Contains};
 ghost use Rattle.std.specs.List.Sorted.{IsPermutation};
-ghost use Rattle.leaf_tags.specs.Tags.{first_place, places_below, IsByTag, IsCut};
+ghost use Rattle.leaf_tags.specs.Tags.{first_place, places_below, places_from, IsByTag, IsCut};
 
 use std::alloc::{AllocError, Global};
 use std::marker::Model;
@@ -175,6 +175,26 @@ impl Tags {
         ensures kept { self.old.spare ≤ self.new.spare }
     {
         self.pairs.retain(|pair| pair.1 < count);
+    }
+
+    /// Moves the pairs whose place isn't below `count` into `right`, which has none, each with its
+    /// place less `count`. Both lists stay in the order of their tags. It takes no memory, and one
+    /// step for each pair.
+    pub fn split_off(&mut self, count: usize, right: &mut Tags)
+        requires empty { right.old.pairs ≡ [] }
+        requires room { length (places_from count self.old.pairs) ≤ right.old.spare }
+        ensures stay { self.new.pairs ≡ places_below count self.old.pairs }
+        ensures go { right.new.pairs ≡ places_from count self.old.pairs }
+        ensures kept { self.old.spare ≤ self.new.spare }
+        ensures taken { right.new.spare + length right.new.pairs ≡ right.old.spare }
+    {
+        for at in 0..self.pairs.len() {
+            let (tag, place) = self.pairs[at];
+            if place >= count {
+                right.pairs.push_reserved((tag, place - count));
+            }
+        }
+        self.truncate(count);
     }
 
     // Where the pairs begin whose tag isn't below this one, sought from the tag's first place.
