@@ -2,12 +2,15 @@
 use Rattle.std.proofs.Common.{◌≡◌, ℕ, zero, suc, ◌-◌, ◌<◌, ◌≤◌, List, [], ◌∷◌, ◌++◌, Bool, true, false, Some, None, Option, refl, sym, ap, ◌∙◌, subst, length, get_or, set, arith, inl, inr, min, cond, not, ◌⊎◌, IsSome, is_some, true≢false}
 use Rattle.std.specs.List.{AllByRecursion, Contains, swap_remove}
 use Rattle.std.specs.List.Sorted.{IsPermutation}
+use Rattle.std.proofs.Math.ListN.{length-set}
 use Rattle.key_bytes.specs.Order.{is_below, is_same}
-use Rattle.leaf_store.specs.Tag.{tag_of}
+use Rattle.key_bytes.specs.Fnv.{prefix_hash}
+use Rattle.leaf_store.specs.Tag.{first_bits, tag_of}
 use Rattle.map_model.specs.Maps.{Pairs, IsMap, find, with, without, sorted}
 use Rattle.key_bytes.proofs.Orders.{same_is}
 use Rattle.map_model.proofs.Finds.{find_sorted, find_without, same_map, ascending_keep}
 use Rattle.leaf_store.specs.Leaf.{LeafMap}
+use Rattle.leaf_store.specs.Lent.{with_value}
 use Rattle.leaf_store.specs.Rows.{AreTags, AreOnce, IsLeaf}
 use Rattle.leaf_store.proofs.Unsorted.{find_at, once_set, sorted_set, once_added, sorted_added, once_swap_remove, sorted_swap_remove}
 use Rattle.leaf_store.proofs.Tagged.{tag_row, none_tagged, tags_added, tags_set}
@@ -20,11 +23,19 @@ min_right a b h = omega arith
 
 module _ {V : Type 0} where
   -- where the key is absent, there is room
-  pub roomy : (m n : LeafMap V) → m ≡ n → (key : List ℕ) → (1 ≤ n.spare) ⊎ IsSome (find n.map key) → find n.map key ≡ None → 1 ≤ m.spare
-  roomy m n e key room gone = elim room [
-    | inl h ↦ subst (λ (s : LeafMap V). 1 ≤ s.spare) (sym e) h
+  pub roomy : (m : LeafMap V) (key : List ℕ) → (1 ≤ m.spare) ⊎ IsSome (find m.map key) → find m.map key ≡ None → 1 ≤ m.spare
+  roomy m key room gone = elim room [
+    | inl h ↦ h
     | inr some ↦ absurd (true≢false (sym some ∙ ap is_some gone))
   ]
+
+  pub seen_room_for_one : (m n : LeafMap V) → m ≡ n → 1 ≤ n.spare → 1 ≤ m.spare
+  seen_room_for_one m n e room = subst (λ (s : LeafMap V). 1 ≤ s.spare) (sym e) room
+
+  -- the tag in a key's hash is the key's
+  pub seen_tag : (m n : LeafMap V) → m ≡ n → (hash tag : ℕ) (key : List ℕ) → hash ≡ prefix_hash n.salt key → tag ≡ first_bits hash → tag ≡ tag_of m.salt key
+  unfolding tag_of
+  seen_tag m n e hash tag key is first = first ∙ ap first_bits (is ∙ ap (λ (s : LeafMap V). prefix_hash s.salt key) (sym e))
 
   all_set : (a : List ℕ) (rows : Pairs V) (i : ℕ) (y d : List ℕ × V) → i < length rows → (get_or rows i d).0 ≡ y.0 → AllByRecursion (λ (p : List ℕ × V). is_below a p.0 ≡ true) rows → AllByRecursion (λ (p : List ℕ × V). is_below a p.0 ≡ true) (set rows i y)
   all_set a [] i y d lt e all = absurd (omega arith)
@@ -38,6 +49,10 @@ module _ {V : Type 0} where
 
   pub seen_find : (m n : LeafMap V) → m ≡ n → (key : List ℕ) (o : Option V) → find m.map key ≡ o → find n.map key ≡ o
   seen_find m n e key o f = subst (λ (s : LeafMap V). find s.map key ≡ o) e f
+
+  -- rows whose map has no key
+  pub seen_gone_key : (m n : LeafMap V) → m ≡ n → (rows : Pairs V) → sorted rows ≡ m.map → (key : List ℕ) → find n.map key ≡ None → find rows key ≡ None
+  seen_gone_key m n e rows same key gone = sym (find_sorted rows key) ∙ (ap (λ p. find p key) same ∙ subst (λ (s : LeafMap V). find s.map key ≡ None) (sym e) gone)
 
   pub seen_with : (m n : LeafMap V) → m ≡ n → (p : Pairs V) (key : List ℕ) (v : V) → p ≡ with m.map key v → p ≡ with n.map key v
   seen_with m n e p key v f = subst (λ (s : LeafMap V). p ≡ with s.map key v) e f
@@ -84,6 +99,16 @@ module _ {V : Type 0} (salt : ℕ) (rows : Pairs V) (pairs : List (ℕ × ℕ)) 
 
     pub written_map : (v : V) → sorted (set rows i (x.0, v)) ≡ with (sorted rows) key v
     written_map v = sorted_set rows i x leaf.keys lt read v ∙ ap (λ k. with (sorted rows) k v) has_key
+
+    abbrev viewed : ℕ → Pairs V → ℕ → LeafMap V
+    viewed spare map room = record { map = map; spare = min room spare; salt = salt; is_ordered = ordered }
+
+    -- what the leaf is seen as, with a value written over
+    pub written_view : (n : LeafMap V) (capacity spare : ℕ) → ◌≡◌ {A = LeafMap V} (record { map = sorted rows; spare = min (capacity - length rows) spare; salt = salt; is_ordered = ordered }) n
+        → (v : V) → ◌≡◌ {A = LeafMap V} (record { map = sorted (set rows i (x.0, v)); spare = min (capacity - length (set rows i (x.0, v))) spare; salt = salt; is_ordered = ordered }) (with_value n key v)
+    written_view n capacity spare seen v =
+        ap (λ (p : Pairs V). viewed spare p (capacity - length (set rows i (x.0, v)))) (written_map v)
+        ∙ (ap (λ k. viewed spare (with (sorted rows) key v) (capacity - k)) (length-set rows i (x.0, v)) ∙ ap (λ (s : LeafMap V). with_value s key v) seen)
 
     -- the last row goes to the place of the one that is taken out
     last : List ℕ × V

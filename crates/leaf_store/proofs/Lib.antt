@@ -6,6 +6,7 @@ pub mod Ascends
 pub mod Taken
 pub mod Settled
 pub mod Cuts
+pub mod Parted
 pub mod Halves
 pub mod Joined
 pub mod Listed

@@ -2,7 +2,7 @@
 use Rattle.std.proofs.Common.{◌≡◌, ℕ, ◌+◌, ◌<◌, List, [], ◌∷◌, Bool, true, sym, ap, ◌∙◌, subst, length, get_or, take, arith, IsTrue, length-take}
 use Rattle.std.specs.List.{Contains, remove}
 use Rattle.std.specs.List.Sorted.{IsPermutation}
-use Rattle.std.proofs.lemmas.List.{take_more}
+use Rattle.std.proofs.lemmas.List.{nil_from_length, take_more}
 use Rattle.std.proofs.lemmas.List.Sorted.{IsPermutation-refl, IsPermutation-cons, IsPermutation-trans, IsPermutation-sym, IsPermutation-remove, length_permutation}
 use Rattle.leaf_store.specs.Tag.{tag_of}
 use Rattle.map_model.specs.Maps.{Pairs, IsMap, sorted}
@@ -29,6 +29,9 @@ module _ {V : Type 0} where
   -- one tag a row
   pub length-tags : (salt : ℕ) (rows : Pairs V) (pairs : List (ℕ × ℕ)) → AreTags salt rows pairs → length pairs ≡ length rows
   length-tags salt rows pairs tags = sym (length_permutation pairs (places salt 0 rows) (counted pairs (places salt 0 rows) tags)) ∙ length-places salt 0 rows
+
+  pub no_tags : (salt : ℕ) (rows : Pairs V) (pairs : List (ℕ × ℕ)) → AreTags salt rows pairs → rows ≡ [] → pairs ≡ []
+  no_tags salt rows pairs tags none = nil_from_length pairs (length-tags salt rows pairs tags ∙ ap length none)
 
   pub retagged : (salt : ℕ) (rows : Pairs V) (i : ℕ) (x : List ℕ × V) (tag : ℕ) (pairs more : List (ℕ × ℕ)) → i < length rows → tag ≡ tag_of salt (get_or rows i x).0 → AreTags salt (take i rows) pairs → IsPermutation ((tag, i) ∷ pairs) more → AreTags salt (take (i + 1) rows) more
   retagged salt rows i x tag pairs more lt e tags p =

@@ -1,3 +1,4 @@
 pub mod Leaf
+pub mod Lent
 pub mod Tag
 pub mod Rows

@@ -4,11 +4,14 @@ ghost use Rattle.std.specs.List.{range_with_len};
 ghost use Rattle.std.specs.List.Sorted.{IsPermutation};
 ghost use Rattle.key_bytes.specs.declared.bound.Bound.TheVariants.{Low};
 ghost use Rattle.map_model.specs.Maps.{IsMap, find, with, without, between, sorted};
+ghost use Rattle.std.specs.Borrow.{sem};
+ghost use Rattle.key_bytes.specs.Fnv.{prefix_hash};
+ghost use Rattle.leaf_store.specs.Lent.{LendsValue};
 ghost use Rattle.leaf_store.specs.Tag.{tag_of};
 
 use crate::order::{count_under, move_tail, sort_rows};
-use crate::rows::{add_tags, place_of, retag, tag_of, take_tag};
-use key_bytes::{Bound, Key};
+use crate::rows::{add_tags, cut_tags, first_bits, place_of, retag, take_tag};
+use key_bytes::{Bound, Key, prefix_hash};
 use leaf_tags::Tags;
 use std::alloc::{AllocError, Global};
 use std::marker::Model;
@@ -75,8 +78,34 @@ impl<V> Leaf<V> {
     pub fn find(&self, key: &Key) -> Option<&V>
         ensures { MatchOption result (find self.now.map key.now ≡ None) (λ value. find self.now.map key.now ≡ Some value.now) }
     {
-        match place_of(&self.rows, &self.tags, tag_of(self.salt, key), key) {
+        self.find_hashed(prefix_hash(self.salt, key.bytes()), key)
+    }
+
+    /// [`Leaf::find`] for a key whose hash is known.
+    pub fn find_hashed(&self, hash: u64, key: &Key) -> Option<&V>
+        requires { hash ≡ prefix_hash self.now.salt key.now }
+        ensures { MatchOption result (find self.now.map key.now ≡ None) (λ value. find self.now.map key.now ≡ Some value.now) }
+    {
+        match place_of(&self.rows, &self.tags, first_bits(hash), key) {
             Some(place) => Some(&self.rows[place].1),
+            None => None,
+        }
+    }
+
+    /// The value of a key whose hash is known, to be changed in its place. No row moves, and nothing
+    /// is copied.
+    pub fn find_mut(&mut self, hash: u64, key: &Key) -> Option<&mut V>
+        requires { hash ≡ prefix_hash self.old.salt key.now }
+
+        // The leaf ends with what the value is when its loan ends, and is else as it was.
+        ensures* lends { sem 𝓛 (LendsValue V.row self.entry key.now result) }
+        ensures value { MatchOption result (find self.old.map key.now ≡ None) (λ value. find self.old.map key.now ≡ Some value.now) }
+    {
+        match place_of(&self.rows, &self.tags, first_bits(hash), key) {
+            Some(place) => {
+                let row = &mut self.rows[place];
+                Some(&mut row.1)
+            }
             None => None,
         }
     }
@@ -114,19 +143,29 @@ impl<V> Leaf<V> {
         ensures spare { self.old.spare ≤ self.new.spare + 1 }
         ensures replaced { IsSome result → (self.new.is_ordered ≡ self.old.is_ordered) × (self.new.spare ≡ self.old.spare) }
     {
-        let tag = tag_of(self.salt, &key);
-        match place_of(&self.rows, &self.tags, tag, &key) {
-            Some(place) => {
-                let row = &mut self.rows[place];
-                Some(mem::replace(&mut row.1, value))
-            }
+        let hash = prefix_hash(self.salt, key.bytes());
+        match self.find_mut(hash, &key) {
+            Some(held) => Some(mem::replace(held, value)),
             None => {
-                self.ordered = false;
-                self.tags.add(tag, self.rows.len());
-                self.rows.push_reserved((key, value));
+                self.insert_new(hash, key, value);
                 None
             }
         }
+    }
+
+    /// Adds a key that isn't there and whose hash is known, at the end of the rows.
+    /// [`Leaf::insert_reserved`] looks for the key before.
+    pub fn insert_new(&mut self, hash: u64, key: Key, value: V)
+        requires hash { hash ≡ prefix_hash self.old.salt key }
+        requires absent { find self.old.map key ≡ None }
+        requires room { 1 ≤ self.old.spare }
+        ensures map { self.new.map ≡ with self.old.map key value }
+        ensures salt { self.new.salt ≡ self.old.salt }
+        ensures spare { self.old.spare ≤ self.new.spare + 1 }
+    {
+        self.ordered = false;
+        self.tags.add(first_bits(hash), self.rows.len());
+        self.rows.push_reserved((key, value));
     }
 
     /// Exchanges the value of a key that is there for this one, and gives back the old one; else gives
@@ -140,12 +179,8 @@ impl<V> Leaf<V> {
         ensures absent { OnErr result (find self.old.map key.now ≡ None) }
         ensures same { OnErr result (self.new ≡ self.old) }
     {
-        let tag = tag_of(self.salt, key);
-        match place_of(&self.rows, &self.tags, tag, key) {
-            Some(place) => {
-                let row = &mut self.rows[place];
-                Ok(mem::replace(&mut row.1, value))
-            }
+        match self.find_mut(prefix_hash(self.salt, key.bytes()), key) {
+            Some(held) => Ok(mem::replace(held, value)),
             None => Err(value),
         }
     }
@@ -158,7 +193,19 @@ impl<V> Leaf<V> {
         ensures spare { self.old.spare ≤ self.new.spare }
         ensures absent { IsNone result → self.new ≡ self.old }
     {
-        let tag = tag_of(self.salt, key);
+        self.remove_hashed(prefix_hash(self.salt, key.bytes()), key)
+    }
+
+    /// [`Leaf::remove`] for a key whose hash is known.
+    pub fn remove_hashed(&mut self, hash: u64, key: &Key) -> Option<V>
+        requires { hash ≡ prefix_hash self.old.salt key.now }
+        ensures map { self.new.map ≡ without self.old.map key.now }
+        ensures value { result ≡ find self.old.map key.now }
+        ensures salt { self.new.salt ≡ self.old.salt }
+        ensures spare { self.old.spare ≤ self.new.spare }
+        ensures absent { IsNone result → self.new ≡ self.old }
+    {
+        let tag = first_bits(hash);
         let place = place_of(&self.rows, &self.tags, tag, key)?;
         self.ordered = false;
         take_tag(&mut self.tags, &self.rows, self.salt, tag, place);
@@ -210,7 +257,8 @@ impl<V> Leaf<V> {
     /// Cuts the leaf: its lower half stays, the greater one where they differ by a key, and the
     /// other half goes to `right`. Both are in order afterwards.
     ///
-    /// The rows move into the room of `right`, so this call never fails today.
+    /// The rows and their tags move into the room of `right`, so this call never fails today. Keys
+    /// are hashed again only where the two salts differ.
     pub fn split_off(&mut self, right: &mut Leaf<V>) -> Result<(), AllocError>
         requires empty { right.old.map ≡ [] }
         requires room { length self.old.map - (length self.old.map + 1) / 2 ≤ right.old.spare }
@@ -225,9 +273,15 @@ impl<V> Leaf<V> {
     {
         self.put_in_order();
         let stay = self.rows.len() - self.rows.len() / 2;
+        cut_tags(
+            &mut self.tags,
+            &self.rows,
+            self.salt,
+            stay,
+            &mut right.tags,
+            right.salt,
+        );
         move_tail(&mut self.rows, stay, &mut right.rows);
-        self.tags.truncate(stay);
-        retag(&mut right.tags, &right.rows, right.salt);
         right.ordered = true;
         Ok(())
     }

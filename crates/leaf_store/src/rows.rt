@@ -1,20 +1,27 @@
 //! Rows of keys and values, and the tags by which they are found.
-ghost use Rattle.std.specs.Prelude.{◌≡◌, ℕ, ◌+◌, ◌-◌, ◌<◌, ◌≤◌, List, false, true, length, take, slice_index_or, MatchOption};
+ghost use Rattle.std.specs.Prelude.{◌≡◌, ℕ, ◌+◌, ◌-◌, ◌<◌, ◌≤◌, List, [], false, true, length, take, drop, slice_index_or, MatchOption};
 ghost use Rattle.std.specs.List.{Contains, swap_remove};
 ghost use Rattle.key_bytes.specs.Order.{is_same};
-ghost use Rattle.leaf_store.specs.Tag.{tag_of};
+ghost use Rattle.leaf_store.specs.Tag.{first_bits, tag_of};
 ghost use Rattle.leaf_store.specs.Rows.{AreTags};
 
 use key_bytes::{Key, prefix_hash};
 use leaf_tags::Tags;
 use std::cmp::Ordering;
 
-// A key's tag: the first 16 of the 64 bits of its hash.
+// The tag in a hash: the first 16 of its 64 bits.
+pub(crate) fn first_bits(hash: u64) -> u16
+    ensures { result ≡ first_bits hash }
+{
+    (hash >> 48) as u16
+}
+
+// A key's tag, that in its hash.
 #[tactic(auto, unfolding(crate::specs::Tag::tag_of))]
 pub(crate) fn tag_of(salt: u64, key: &Key) -> u16
     ensures { result ≡ tag_of salt key.now }
 {
-    (prefix_hash(salt, key.bytes()) >> 48) as u16
+    first_bits(prefix_hash(salt, key.bytes()))
 }
 
 // Whether the row at a place has the key.
@@ -75,4 +82,30 @@ pub(crate) fn retag<V>(tags: &mut Tags, rows: &[(Key, V)], salt: u64)
 {
     tags.clear();
     add_tags(tags, rows, salt, 0);
+}
+
+// Cuts the tags of rows at a place: those of the first rows stay, and the others go to `right`,
+// which has none, under its own salt. Under equal salts they move as they are, and no key is hashed.
+pub(crate) fn cut_tags<V>(
+    tags: &mut Tags,
+    rows: &[(Key, V)],
+    salt: u64,
+    stay: usize,
+    right: &mut Tags,
+    right_salt: u64,
+)
+    requires tags { AreTags salt rows.now tags.old.pairs }
+    requires in_range { stay ≤ length rows.now }
+    requires empty { right.old.pairs ≡ [] }
+    requires room { length rows.now - stay ≤ right.old.spare }
+    ensures stay { AreTags salt (take stay rows.now) tags.new.pairs }
+    ensures go { AreTags right_salt (drop stay rows.now) right.new.pairs }
+    ensures spare { tags.old.spare ≤ tags.new.spare }
+{
+    if salt == right_salt {
+        tags.split_off(stay, right);
+    } else {
+        tags.truncate(stay);
+        retag(right, &rows[stay..], right_salt);
+    }
 }

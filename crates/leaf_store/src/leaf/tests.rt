@@ -1,5 +1,6 @@
 //! Leaves against maps of the standard library.
 use super::*;
+use crate::rows::tag_of;
 use std::collections::BTreeMap;
 use std::process::Abort;
 use std::test::Fail;
@@ -99,6 +100,22 @@ fn halves_move_with_ample_memory(rt: HostRuntime) -> Result<(), Fail> {
     Ok(())
 }
 
+// Under one salt the tags of the greater half move with its rows.
+#[test]
+fn tags_move_under_one_salt(rt: HostRuntime) -> Result<(), Fail> {
+    let mut left = Leaf::new(rt.alloc(), 0);
+    left.reserve(2)?;
+    left.insert_reserved(key_of(rt.alloc(), 2)?, 20);
+    left.insert_reserved(key_of(rt.alloc(), 1)?, 10);
+
+    let mut right = Leaf::new(rt.alloc(), 0);
+    right.reserve(left.len())?;
+    left.split_off(&mut right)?;
+    assert_eq!(rt; left.find(&key_of(rt.alloc(), 1)?), Some(&10));
+    assert_eq!(rt; right.find(&key_of(rt.alloc(), 2)?), Some(&20));
+    Ok(())
+}
+
 // A value is exchanged where its key is there, and comes back where it isn't.
 #[test]
 fn values_are_exchanged(rt: HostRuntime) -> Result<(), Fail> {
@@ -109,6 +126,22 @@ fn values_are_exchanged(rt: HostRuntime) -> Result<(), Fail> {
     leaf.insert_reserved(key_of(rt.alloc(), 1)?, 20);
     assert_eq!(rt; leaf.replace(&key, 30), Ok(20));
     assert_eq!(rt; leaf.find(&key), Some(&30));
+    Ok(())
+}
+
+// A value is written in its place, and is found there, under a hash that is computed once.
+#[test]
+fn one_hash_serves_all_calls(rt: HostRuntime) -> Result<(), Fail> {
+    let mut leaf = Leaf::new(rt.alloc(), 5);
+    let key = key_of(rt.alloc(), 1)?;
+    let hash = prefix_hash(5, key.bytes());
+    leaf.reserve_one()?;
+    leaf.insert_new(hash, key.copy()?, 10_u32);
+    if let Some(value) = leaf.find_mut(hash, &key) {
+        *value = 20;
+    }
+    assert_eq!(rt; leaf.find_hashed(hash, &key), Some(&20));
+    assert_eq!(rt; leaf.remove_hashed(hash, &key), Some(20));
     Ok(())
 }
 

@@ -1,9 +1,9 @@
-use Rattle.std.proofs.Common.{arith, ◌≡◌, ◌∙◌, ◌+◌, ◌-◌, ◌/◌, refl, ap, subst, length, take, drop, length-take, length-drop}
+use Rattle.std.proofs.Common.{arith, ◌≡◌, ◌∙◌, ◌+◌, ◌-◌, ◌/◌, refl, ap, subst, length, take, drop, length-take}
 use Rattle.map_model.specs.Maps.{sorted}
 use Rattle.leaf_store.specs.Rows.{AreTags}
 use Rattle.leaf_store.proofs.Unsorted.{sorted_nothing, sorted_ascending}
 use Rattle.leaf_store.proofs.Halves.{left_leaf, right_leaf, left_map, right_map}
-use Rattle.leaf_store.proofs.Settled.{settled_rows, seen_pairs, seen_spare}
+use Rattle.leaf_store.proofs.Settled.{no_tags, settled_rows, seen_pairs, seen_spare}
 use Rattle.leaf_store.proofs.leaf.Leaf.split_off.Goals as goal
 
 pub move_tail-requires-clause-empty : goal.move_tail-requires-clause-empty
@@ -17,25 +17,32 @@ move_tail-requires-clause-room g c =
     let room = c.requires.room in
     omega (arith, size, spare, room, c.len.ensures, c.len-2.ensures)
 
-pub retag-requires : goal.retag-requires
-retag-requires g c =
+pub cut_tags-requires-clause-tags : goal.cut_tags-requires-clause-tags
+cut_tags-requires-clause-tags g c = rw c.deref.ensures.value c.self.invariant.tags
+
+pub cut_tags-requires-clause-empty : goal.cut_tags-requires-clause-empty
+cut_tags-requires-clause-empty g c = no_tags c.right.inside.salt c.right.inside.rows.items c.right.inside.tags.pairs c.right.invariant.tags (sorted_nothing c.right.inside.rows.items c.right.invariant.keys (seen_pairs _ _ c.right.view_is ∙ c.requires.empty))
+
+pub cut_tags-requires-clause-room : goal.cut_tags-requires-clause-room
+cut_tags-requires-clause-room g c =
     let s = settled_rows _ _ c.self.view_is c.self.inside.rows.items refl c.self.invariant.order c.put_in_order.ensures.ordered _ c.put_in_order.ensures.map in
     let size = ap length s.0 in
     let spare = seen_spare _ _ c.right.view_is in
     let room = c.requires.room in
-    let go = ap length (c.deref.ensures.value ∙ c.move_tail.ensures.go) ∙ length-drop (c.len.result - c.len-2.result / 2) c.self.inside.rows.items in
-    omega (arith, size, spare, room, go, c.len.ensures, c.len-2.ensures)
+    let rows = ap length c.deref.ensures.value in
+    omega (arith, size, spare, room, rows, c.len.ensures, c.len-2.ensures)
 
 pub invariant_of-self : goal.invariant_of-self
 invariant_of-self g c =
     let s = settled_rows _ _ c.self.view_is c.self.inside.rows.items refl c.self.invariant.order c.put_in_order.ensures.ordered _ c.put_in_order.ensures.map in
-    rw (c.move_tail.ensures.stay, c.truncate.ensures.pairs) (left_leaf c.self.inside.rows.items s.1 (c.len.result - c.len-2.result / 2) c.self.inside.salt c.self.inside.tags.pairs c.self.inside.ordered c.self.invariant)
+    let tags = subst (λ rows. AreTags c.self.inside.salt (take (c.len.result - c.len-2.result / 2) rows) c.cut_tags.new.tags.pairs) c.deref.ensures.value c.cut_tags.ensures.stay in
+    rw c.move_tail.ensures.stay (left_leaf c.self.inside.rows.items s.1 (c.len.result - c.len-2.result / 2) c.self.invariant.keys c.self.inside.salt c.cut_tags.new.tags.pairs tags c.self.inside.ordered)
 
 pub invariant_of-right : goal.invariant_of-right
 invariant_of-right g c =
     let s = settled_rows _ _ c.self.view_is c.self.inside.rows.items refl c.self.invariant.order c.put_in_order.ensures.ordered _ c.put_in_order.ensures.map in
-    let tags = subst (λ rows. AreTags c.right.inside.salt rows c.retag.new.tags.pairs) (c.deref.ensures.value ∙ c.move_tail.ensures.go) c.retag.ensures.tags in
-    rw c.move_tail.ensures.go (right_leaf c.self.inside.rows.items s.1 (c.len.result - c.len-2.result / 2) c.self.invariant.keys c.right.inside.salt c.retag.new.tags.pairs tags)
+    let tags = subst (λ rows. AreTags c.right.inside.salt (drop (c.len.result - c.len-2.result / 2) rows) c.cut_tags.new.right.pairs) c.deref.ensures.value c.cut_tags.ensures.go in
+    rw c.move_tail.ensures.go (right_leaf c.self.inside.rows.items s.1 (c.len.result - c.len-2.result / 2) c.self.invariant.keys c.right.inside.salt c.cut_tags.new.right.pairs tags)
 
 pub returns-clause-stay : goal.returns-clause-stay
 returns-clause-stay g c =
@@ -57,4 +64,4 @@ pub returns-clause-spare : goal.returns-clause-spare
 returns-clause-spare g c =
     let stay = ap length c.move_tail.ensures.stay ∙ length-take (c.len.result - c.len-2.result / 2) c.self.inside.rows.items in
     let spare = seen_spare _ _ c.self.view_is in
-    omega (arith, stay, spare, c.put_in_order.ensures.spare, c.move_tail.ensures.from_capacity, c.truncate.ensures.kept)
+    omega (arith, stay, spare, c.put_in_order.ensures.spare, c.move_tail.ensures.from_capacity, c.cut_tags.ensures.spare)

@@ -2,27 +2,30 @@ use Rattle.std.proofs.Common.{◌∙◌, sym, subst}
 use Rattle.std.specs.List.{swap_remove}
 use Rattle.map_model.proofs.Finds.{ascending_sorted}
 use Rattle.leaf_store.specs.Rows.{AreTags}
-use Rattle.leaf_store.proofs.Changes.{seen_find, seen_without, seen_gone, found, absent, tagged, untagged, taken_tag, taken_leaf, taken_map}
-use Rattle.leaf_store.proofs.leaf.Leaf.remove.Goals as goal
+use Rattle.leaf_store.proofs.Changes.{seen_find, seen_without, seen_gone, seen_tag, found, absent, tagged, untagged, taken_tag, taken_leaf, taken_map}
+use Rattle.leaf_store.proofs.leaf.Leaf.remove_hashed.Goals as goal
 
 pub place_of-requires : goal.place_of-requires
-place_of-requires g c = rw c.deref.ensures.value (tagged c.self.inside.salt c.self.inside.rows.items c.self.inside.tags.pairs c.self.inside.ordered c.self.invariant c.tag_of-tag.result)
+place_of-requires g c = rw c.deref.ensures.value (tagged c.self.inside.salt c.self.inside.rows.items c.self.inside.tags.pairs c.self.inside.ordered c.self.invariant c.first_bits-tag.result)
 
 pub take_tag-requires-clause-tag : goal.take_tag-requires-clause-tag
 take_tag-requires-clause-tag g c =
     let h = rw c.deref.ensures.value at c.in_ok-place.ensures in
-    rw c.deref-2.ensures.value (taken_tag c.self.inside.salt c.self.inside.rows.items c.in_ok-place.place c.args.key.now c.tag_of-tag.result c.tag_of-tag.ensures h.1)
+    let tag = seen_tag _ _ c.self.view_is c.args.hash c.first_bits-tag.result c.args.key.now c.requires c.first_bits-tag.ensures in
+    rw c.deref-2.ensures.value (taken_tag c.self.inside.salt c.self.inside.rows.items c.in_ok-place.place c.args.key.now c.first_bits-tag.result tag h.1)
 
 pub returns-in_err-place-clause-map : goal.returns-in_err-place-clause-map
 returns-in_err-place-clause-map g c =
     let each = rw c.deref.ensures.value at c.in_err-place.ensures in
-    let none = untagged c.self.inside.salt c.self.inside.rows.items c.self.inside.tags.pairs c.self.inside.ordered c.self.invariant c.tag_of-tag.result c.args.key.now c.tag_of-tag.ensures each in
+    let tag = seen_tag _ _ c.self.view_is c.args.hash c.first_bits-tag.result c.args.key.now c.requires c.first_bits-tag.ensures in
+    let none = untagged c.self.inside.salt c.self.inside.rows.items c.self.inside.tags.pairs c.self.inside.ordered c.self.invariant c.first_bits-tag.result c.args.key.now tag each in
     seen_gone _ _ c.self.view_is c.args.key.now (absent c.self.inside.salt c.self.inside.rows.items c.self.inside.tags.pairs c.self.inside.ordered c.self.invariant c.args.key.now none) (ascending_sorted c.self.inside.rows.items)
 
 pub returns-in_err-place-clause-value : goal.returns-in_err-place-clause-value
 returns-in_err-place-clause-value g c =
     let each = rw c.deref.ensures.value at c.in_err-place.ensures in
-    let none = untagged c.self.inside.salt c.self.inside.rows.items c.self.inside.tags.pairs c.self.inside.ordered c.self.invariant c.tag_of-tag.result c.args.key.now c.tag_of-tag.ensures each in
+    let tag = seen_tag _ _ c.self.view_is c.args.hash c.first_bits-tag.result c.args.key.now c.requires c.first_bits-tag.ensures in
+    let none = untagged c.self.inside.salt c.self.inside.rows.items c.self.inside.tags.pairs c.self.inside.ordered c.self.invariant c.first_bits-tag.result c.args.key.now tag each in
     c.from_residual.ensures ∙ sym (seen_find _ _ c.self.view_is c.args.key.now _ (absent c.self.inside.salt c.self.inside.rows.items c.self.inside.tags.pairs c.self.inside.ordered c.self.invariant c.args.key.now none))
 
 pub invariant_of-self : goal.invariant_of-self
