@@ -39,8 +39,8 @@ first_live k ws p lo hi row first after e either live named beside = go (begins 
         let here : begins p h ≡ true = sym (ap (λ (t : Bool). t || begins_end p hi) is ∙ ap (begins_end p) end) ∙ either in
         (subst (IsLive k ws) (sym same) b.0, ap (λ (l : ℕ). take (length p) (anchor_at k ws l)) same ∙ ap (take (length p)) b.1 ∙ begins_is_take p h here)
 
--- the link to the first free item is a small number
-pub free_small : (k : Shape) (ws : List ℕ) (known : List ℕ → Option Item) → Holds k ws known → free_of ws < 4294967296
+-- the first free item is a small number
+pub free_small : (k : Shape) (ws : List ℕ) (known : List ℕ → Option Item) → Holds k ws known → free_of ws < 4294967295
 free_small k ws known h = elim (cases_order 0 (free_of ws)) [
   | inl none ↦ omega (arith, none)
   | inr r ↦ elim r [

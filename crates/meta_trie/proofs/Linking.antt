@@ -8,7 +8,7 @@ use Rattle.row_words.specs.declared.rows.ItemRow.{ItemRow}
 use Rattle.row_words.specs.Decode.{head_at, item_at, anchor_at, IsLive}
 use Rattle.key_bytes.specs.Order.{is_same}
 use Rattle.anchor_rules.specs.Items.{Item}
-use Rattle.meta_trie.specs.Trie.{Says, Entry, bucket_of, Chain, Stands, Names, Apart, Spare, Unlike, Among, HasEntry, Holds, used_of, free_of}
+use Rattle.meta_trie.specs.Trie.{Says, Entry, bucket_of, Chain, Stands, Names, Apart, Spare, Unlike, Among, HasEntry, Holds, named_free, free_after, used_of, free_of}
 use Rattle.meta_trie.specs.Words.{Linked, SameAnchors, with_item}
 use Rattle.key_bytes.proofs.Orders.{same_is, same_itself}
 use Rattle.meta_trie.proofs.Lists.{not_same}
@@ -97,7 +97,7 @@ apart_new i name (e ∷ es) o = ((λ x. o.0.0 (sym x), λ x. o.0.1 (sym x)), apa
 spare_stays : (k : Shape) (old new : List ℕ) (i : ℕ) (name : List ℕ) (row : ItemRow) (owner : ℕ → Option (List ℕ)) (js : List ℕ) (link : ℕ) → Linked k old new i name row → AllByRecursion (λ (j : ℕ). i ≡ j → ⊥) js → AllByRecursion (λ (j : ℕ). (j < k.items) × (owner j ≡ None)) js → Spare k old link js → Spare k new link js
 spare_stays k old new i name row owner [] link l u o c = c
 spare_stays k old new i name row owner (j ∷ js) link l u o c =
-    (c.0, subst (λ (n : ℕ). Spare k new n js) (sym (ap (λ (r : ItemRow). r.next) (l.items j (λ x. u.0 (sym x)) o.0.0).item)) (spare_stays k old new i name row owner js _ l u.1 o.1 c.1))
+    (c.0, subst (λ (n : ℕ). Spare k new n js) (sym (ap (λ (r : ItemRow). named_free k.items j r.next) (l.items j (λ x. u.0 (sym x)) o.0.0).item)) (spare_stays k old new i name row owner js _ l u.1 o.1 c.1))
 
 unowned_stays : (k : Shape) (i : ℕ) (name : List ℕ) (owner : ℕ → Option (List ℕ)) (js : List ℕ) → AllByRecursion (λ (j : ℕ). i ≡ j → ⊥) js → AllByRecursion (λ (j : ℕ). (j < k.items) × (owner j ≡ None)) js → AllByRecursion (λ (j : ℕ). (j < k.items) × (owns i name owner j ≡ None)) js
 unowned_stays k i name owner [] u o = tt
@@ -110,7 +110,7 @@ among_later i j js ne a = elim a [ inl same ↦ absurd (ne (sym same)) | inr lat
 pub record FirstFree (k : Shape) (ws : List ℕ) (owner : ℕ → Option (List ℕ)) (free : List ℕ) (i : ℕ) : Type 0 where
   pub rest : List ℕ
   pub whole : free ≡ i ∷ rest
-  pub spare : Spare k ws (item_at k ws i).next rest
+  pub spare : Spare k ws (free_after k ws i) rest
   pub in_range : i < k.items
   pub unowned : owner i ≡ None
   pub others : AllByRecursion (λ (j : ℕ). i ≡ j → ⊥) rest

@@ -5,7 +5,7 @@ use Rattle.std.proofs.lemmas.Bool.{cases_order}
 use Rattle.anchor_rules.specs.Items.{Item}
 use Rattle.row_words.specs.declared.shape.Shape.{Shape}
 use Rattle.row_words.specs.Decode.{item_at, IsLive}
-use Rattle.meta_trie.specs.Trie.{Entry, bucket_of, Chain, Stands, Names, Apart, HasEntry, Spare, Holds}
+use Rattle.meta_trie.specs.Trie.{Entry, bucket_of, Chain, Stands, Names, Apart, HasEntry, named_free, Spare, Holds}
 use Rattle.meta_trie.specs.Words.{SameAnchors}
 
 pub some_same : (a b : List ℕ) → Some a ≡ Some b → a ≡ b
@@ -58,7 +58,7 @@ chain_kept k old new (e ∷ es) link n c = (c.0, subst (λ (x : ℕ). Chain k ne
 
 pub spare_kept : (k : Shape) (old new : List ℕ) (js : List ℕ) (link : ℕ) → AllByRecursion (λ (j : ℕ). (item_at k new j).next ≡ (item_at k old j).next) js → Spare k old link js → Spare k new link js
 spare_kept k old new [] link n c = c
-spare_kept k old new (j ∷ js) link n c = (c.0, subst (λ (x : ℕ). Spare k new x js) (sym n.0) (spare_kept k old new js _ n.1 c.1))
+spare_kept k old new (j ∷ js) link n c = (c.0, subst (λ (x : ℕ). Spare k new x js) (sym (ap (named_free k.items j) n.0)) (spare_kept k old new js _ n.1 c.1))
 
 pub live_kept : (k : Shape) (old new : List ℕ) → SameAnchors k old new → (leaf : ℕ) → IsLive k old leaf → IsLive k new leaf
 live_kept k old new same leaf live = let e = (same leaf live).0 in (live.0, omega (arith, e, live.1), omega (arith, e, live.2))

@@ -7,7 +7,7 @@ use Rattle.row_words.specs.declared.shape.Shape.{Shape}
 use Rattle.row_words.specs.declared.rows.ItemRow.{ItemRow}
 use Rattle.row_words.specs.Layout.{item_word}
 use Rattle.row_words.specs.Decode.{head_at, item_at, link_word}
-use Rattle.meta_trie.specs.Trie.{used_of, free_of}
+use Rattle.meta_trie.specs.Trie.{named_free, used_of, free_of}
 use Rattle.meta_trie.specs.Words.{Put, NextSet, Relinked, Unlinked}
 use Rattle.meta_trie.proofs.Segments.{same_item}
 use Rattle.meta_trie.proofs.Writes.{anchors_same}
@@ -68,7 +68,7 @@ relinked_head k ws bucket next bl room small =
     }
 
 -- an item was taken out of its bucket by two links and two words of the header
-module _ (k : Shape) (ws w1 w2 w3 : List ℕ) (i before bucket next free used : ℕ) (lt : i < k.items) (bl : bucket < k.heads) (next_is : next ≡ (item_at k ws i).next) (free_is : free ≡ free_of ws) (used_is : used + 1 ≡ used_of ws) (ranges : k.items ≤ 4194304)
+module _ (k : Shape) (ws w1 w2 w3 : List ℕ) (i before bucket next free used : ℕ) (lt : i < k.items) (bl : bucket < k.heads) (next_is : next ≡ (item_at k ws i).next) (free_is : named_free k.items i free ≡ free_of ws) (used_is : used + 1 ≡ used_of ws) (ranges : k.items ≤ 4194304)
     (r1 : Relinked k ws w1 before bucket next) (r2 : Relinked k w1 w2 (i + 1) bucket free) (p : Put w2 w3 1 (used ∷ (i + 1) ∷ [])) where
   third : (x : ℕ) → 4 ≤ x → get_or w3 x 0 ≡ get_or w2 x 0
   third x l = p.behind x (omega arith)
@@ -84,7 +84,7 @@ module _ (k : Shape) (ws w1 w2 w3 : List ℕ) (i before bucket next free used : 
 
   pub unlinked_words : Unlinked k ws w3 i before bucket
   unlinked_words = record {
-    gone = ap (λ (r : ItemRow). r.next) (item_third i ∙ r2.items i lt) ∙ ap (λ (t : Bool). if t then free else (item_at k w1 i).next) (eq-eqb (i + 1) (i + 1) refl) ∙ free_is;
+    gone = ap (λ (r : ItemRow). named_free k.items i r.next) (item_third i ∙ r2.items i lt) ∙ ap (λ (t : Bool). named_free k.items i (if t then free else (item_at k w1 i).next)) (eq-eqb (i + 1) (i + 1) refl) ∙ free_is;
     items = λ j ne l.
         let no : i + 1 ≢ j + 1 = λ e. ne (omega (arith, e)) in
         item_third j ∙ r2.items j l

@@ -10,7 +10,7 @@ use Rattle.row_words.specs.Bytes.{bytes_from}
 use Rattle.row_words.specs.Decode.{head_at, hash_at, item_at, mark_at}
 use Rattle.row_words.proofs.Packed.{bytes_same}
 use Rattle.key_bytes.specs.Fnv.{prefix_hash}
-use Rattle.meta_trie.specs.Trie.{bucket_of, used_of, free_of}
+use Rattle.meta_trie.specs.Trie.{bucket_of, used_of, free_of, free_after}
 use Rattle.meta_trie.specs.Words.{Put, Linked, SameAnchors, Codes, Written}
 
 -- six words give an item
@@ -23,7 +23,7 @@ module _ (k : Shape) (ws w1 w2 w3 : List ℕ) (i b hash link sides b0 b1 b2 b3 :
     (lt : i < k.items) (bl : b < k.heads)
     (p1 : Put ws w1 (item_word k i) (hash ∷ link ∷ sides ∷ b0 ∷ b1 ∷ b2 ∷ b3 ∷ []))
     (p2 : Put w1 w2 (4 + b) ((i + 1) ∷ []))
-    (p3 : Put w2 w3 1 ((used_of ws + 1) ∷ (item_at k ws i).next ∷ [])) where
+    (p3 : Put w2 w3 1 ((used_of ws + 1) ∷ free_after k ws i ∷ [])) where
   -- the items and leaf rows are as the first write left them
   high : (x : ℕ) → 4 + k.heads ≤ x → get_or w3 x 0 ≡ get_or w1 x 0
   high x l = p3.behind x (omega arith) ∙ p2.behind x (omega arith)
@@ -95,10 +95,10 @@ module _ (k : Shape) (ws w1 w2 w3 : List ℕ) (i b hash link sides b0 b1 b2 b3 :
     free = p3.inside 1 (omega arith);
   }
 
-pub linked_from : (k : Shape) (ws w3 : List ℕ) (i b hash next used free : ℕ) (row : ItemRow) (name : List ℕ) → Written k ws w3 i b hash next used free row → i < k.items → IsShape k → b ≡ bucket_of k name → used ≡ used_of ws + 1 → free ≡ (item_at k ws i).next → next ≡ head_at k ws b → free_of ws ≡ i + 1 → hash ≡ prefix_hash k.salt name → Linked k ws w3 i name row
+pub linked_from : (k : Shape) (ws w3 : List ℕ) (i b hash next used free : ℕ) (row : ItemRow) (name : List ℕ) → Written k ws w3 i b hash next used free row → i < k.items → IsShape k → b ≡ bucket_of k name → used ≡ used_of ws + 1 → free ≡ free_after k ws i → next ≡ head_at k ws b → free_of ws ≡ i + 1 → hash ≡ prefix_hash k.salt name → Linked k ws w3 i name row
 linked_from k ws w3 i b hash next used free row name w lt ranges at u f n taken is =
     let some = ranges.heads.0 in
     let bl : b < k.heads = omega (arith, at, some) in
     linked_words k ws w.w1 w.w2 w3 i b hash w.link w.sides w.b0 w.b1 w.b2 w.b3 lt bl w.first w.second
-    (subst (λ (x : ℕ). Put w.w2 w3 1 (x ∷ (item_at k ws i).next ∷ [])) u (subst (λ (x : ℕ). Put w.w2 w3 1 (used ∷ x ∷ [])) f w.third))
+    (subst (λ (x : ℕ). Put w.w2 w3 1 (x ∷ free_after k ws i ∷ [])) u (subst (λ (x : ℕ). Put w.w2 w3 1 (used ∷ x ∷ [])) f w.third))
     name row ranges (sym at) taken is (subst (λ (x : ℕ). Codes row x w.link w.sides (w.b0 ∷ w.b1 ∷ w.b2 ∷ w.b3 ∷ [])) n w.codes)

@@ -1,10 +1,10 @@
 -- The table of the one empty anchor.
-use Rattle.std.proofs.Common.{◌≡◌, ◌≢◌, ℕ, zero, suc, ◌+◌, ◌-◌, ◌/◌, ◌%◌, ◌^◌, ◌<◌, ◌≤◌, inl, inr, List, [], ◌∷◌, length, get_or, Option, Some, None, sym, ap, ◌∙◌, refl, subst, arith, rules, get_or-set_other, get_or-set_same}
-use Rattle.std.specs.Prelude.{true, false, ◌==◌, if◌then◌else◌}
+use Rattle.std.proofs.Common.{◌≡◌, ◌≢◌, ℕ, zero, suc, ◌+◌, ◌-◌, ◌/◌, ◌%◌, ◌^◌, ◌<◌, ◌≤◌, inl, inr, List, [], ◌∷◌, get_or, Option, Some, None, sym, ap, ◌∙◌, refl, subst, arith, rules, eq-eqb}
+use Rattle.std.specs.Prelude.{length, replicate, Bool, true, false, ◌==◌, if◌then◌else◌}
 use Rattle.std.specs.List.{AllByRecursion, range_with_len}
-use Rattle.std.proofs.Math.ListN.{set}
+use Rattle.std.proofs.lemmas.List.{get_or-replicate, get_or_past, length-replicate}
 use Rattle.std.proofs.lemmas.List.FromFn.{length-range_with_len}
-use Rattle.std.proofs.lemmas.Bool.{cases_order}
+use Rattle.std.proofs.lemmas.Bool.{cases_order, ne_eqb}
 use Rattle.std.proofs.Common.{true≢false}
 use Rattle.anchor_rules.specs.Anchors.{has_leaf}
 use Rattle.anchor_rules.specs.Items.{Item, item}
@@ -14,49 +14,37 @@ use Rattle.row_words.specs.Layout.{item_word, leaf_word}
 use Rattle.row_words.specs.Shape.{IsShape}
 use Rattle.row_words.specs.Bytes.{bytes_from}
 use Rattle.row_words.specs.Decode.{mark_at, IsLive}
-use Rattle.meta_trie.specs.Trie.{Says, bit_of, Among, Spare, Unlike, Holds}
+use Rattle.meta_trie.specs.Trie.{Says, bit_of, Among, named_free, free_after, Spare, Unlike, Holds}
 use Rattle.meta_trie.specs.Stands.{StandsFor}
-use Rattle.meta_trie.specs.Words.{Put, Linked, FreeWords, Bare, with_item}
+use Rattle.meta_trie.specs.Words.{Put, Linked, Bare, with_item}
 use Rattle.meta_trie.proofs.Linking.{linked, linked-owner}
 use Rattle.meta_trie.proofs.Holding.{holds_same, holds_same-owner}
 
--- one item more in the list of the free ones
-pub free_more : (k : Shape) (ws : List ℕ) (n : ℕ) → 0 < n → item_word k (n - 1) + 1 < length ws → FreeWords k ws n → FreeWords k (set ws (item_word k (n - 1) + 1) (n + 1)) (n + 1)
-free_more k ws n some room f = record {
-  links = λ j l. elim (cases_order j (n - 1)) [
-    | inl same ↦
-        let at : item_word k j + 1 ≡ item_word k (n - 1) + 1 = omega (arith, same) in
-        ap (λ (x : ℕ). get_or (set ws (item_word k (n - 1) + 1) (n + 1)) x 0) at ∙ get_or-set_same ws (item_word k (n - 1) + 1) (n + 1) 0 room ∙ omega (arith, same)
-    | inr other ↦
-        let ne : j ≢ n - 1 = elim other [ inl below ↦ λ e. omega (arith, e, below) | inr above ↦ λ e. omega (arith, e, above) ] in
-        let far : item_word k j + 1 ≢ item_word k (n - 1) + 1 = omega (arith, ne) in
-        get_or-set_other ws (item_word k (n - 1) + 1) (item_word k j + 1) (n + 1) 0 far ∙ f.links j (omega (arith, ne))
-  ];
-  zero = λ x other.
-      let far : x ≢ item_word k (n - 1) + 1 = other (n - 1) (omega arith) in
-      get_or-set_other ws (item_word k (n - 1) + 1) x (n + 1) 0 far ∙ f.zero x (λ j l. other j (omega arith));
-}
-
-pub free_start : (k : Shape) (ws : List ℕ) → ((x : ℕ) → get_or ws x 0 ≡ 0) → FreeWords k ws 1
-free_start k ws z = record { links = λ j l. absurd (omega (arith, l)); zero = λ x other. z x }
+-- words that are all 0
+pub all_zero : (ws : List ℕ) (n : ℕ) → ws ≡ replicate n 0 → (x : ℕ) → get_or ws x 0 ≡ 0
+all_zero ws n is x =
+    let many : length ws ≡ n = ap length is ∙ length-replicate n 0 in
+    elim (cases_order x n) [
+      | inl same ↦ get_or_past ws x 0 (omega (arith, same, many))
+      | inr other ↦ elim other [ inl below ↦ ap (λ (v : List ℕ). get_or v x 0) is ∙ get_or-replicate n x 0 0 below | inr past ↦ get_or_past ws x 0 (omega (arith, past, many)) ]
+    ]
 
 -- the header and the row of leaf 0 were written
-module _ (k : Shape) (w0 w1 w2 : List ℕ) (ranges : IsShape k) (f : FreeWords k w0 k.items) (p1 : Put w0 w1 0 (0 ∷ 0 ∷ 1 ∷ 1 ∷ [])) (p2 : Put w1 w2 (leaf_word k 0) (1 ∷ [])) where
-  high : (x : ℕ) → 4 ≤ x → x < leaf_word k 0 → get_or w2 x 0 ≡ get_or w0 x 0
-  high x l m = p2.before x m ∙ p1.behind x (omega arith)
+module _ (k : Shape) (w0 w1 w2 : List ℕ) (ranges : IsShape k) (z : (x : ℕ) → get_or w0 x 0 ≡ 0) (p1 : Put w0 w1 0 (0 ∷ 0 ∷ 1 ∷ 1 ∷ [])) (p2 : Put w1 w2 (leaf_word k 0) (1 ∷ [])) where
+  high : (x : ℕ) → 4 ≤ x → x < leaf_word k 0 → get_or w2 x 0 ≡ 0
+  high x l m = p2.before x m ∙ p1.behind x (omega arith) ∙ z x
 
   rows : (x : ℕ) → leaf_word k 0 < x → get_or w2 x 0 ≡ 0
-  rows x l = p2.behind x (omega arith) ∙ p1.behind x (omega arith) ∙ f.zero x (λ j m. omega arith)
+  rows x l = p2.behind x (omega arith) ∙ p1.behind x (omega arith) ∙ z x
 
   header : (x : ℕ) → x < 4 → get_or w2 x 0 ≡ get_or (0 ∷ 0 ∷ 1 ∷ 1 ∷ []) x 0
   header x l = p2.before x (omega arith) ∙ ap (λ (y : ℕ). get_or w1 y 0) (omega arith) ∙ p1.inside x l
 
   pub bare_words : Bare k w2
-  bare_words = let some = ranges.items.0 in let most = ranges.items.1 in record {
+  bare_words = let some = ranges.items.0 in record {
     ranges = ranges;
-    heads = λ b l. ap (λ (w : ℕ). w % 4294967296) (high (4 + b) (omega arith) (omega arith) ∙ f.zero (4 + b) (λ j m. omega arith));
-    links = λ j l. ap (λ (w : ℕ). w % 4294967296) (high (item_word k j + 1) (omega arith) (omega arith) ∙ f.links j l) ∙ omega (arith, l, most);
-    last = λ j e. ap (λ (w : ℕ). w % 4294967296) (high (item_word k j + 1) (omega arith) (omega arith) ∙ f.zero (item_word k j + 1) (λ i m. omega (arith, e, m)));
+    heads = λ b l. ap (λ (w : ℕ). w % 4294967296) (high (4 + b) (omega arith) (omega arith));
+    links = λ j l. ap (λ (w : ℕ). w % 4294967296) (high (item_word k j + 1) (omega arith) (omega arith));
     longest = header 0 (omega arith);
     used = header 1 (omega arith);
     free = header 2 (omega arith);
@@ -92,8 +80,13 @@ among i a (suc n) l m = elim (cases_order a i) [
 
 module _ (k : Shape) (ws : List ℕ) (b : Bare k ws) where
   spare_from : (a n : ℕ) → a + n + 1 ≡ k.items → Spare k ws (a + 1) (range_with_len a (suc n))
-  spare_from a zero e = (refl, b.last a (omega (arith, e)))
-  spare_from a (suc n) e = (refl, subst (λ (x : ℕ). Spare k ws x (range_with_len (a + 1) (suc n))) (sym (b.links a (omega (arith, e)) ∙ omega arith)) (spare_from (a + 1) n (omega (arith, e))))
+  spare_from a zero e =
+      let end : a + 1 ≡ k.items = omega (arith, e) in
+      (refl, ap (named_free k.items a) (b.links a (omega (arith, e))) ∙ ap (λ (t : Bool). if t then 0 else a + 2) (eq-eqb (a + 1) k.items end))
+  spare_from a (suc n) e =
+      let more : a + 1 ≢ k.items = λ end. omega (arith, e, end) in
+      let next : free_after k ws a ≡ a + 1 + 1 = ap (named_free k.items a) (b.links a (omega (arith, e))) ∙ ap (λ (t : Bool). if t then 0 else a + 2) (ne_eqb (a + 1) k.items more) ∙ omega arith in
+      (refl, subst (λ (x : ℕ). Spare k ws x (range_with_len (a + 1) (suc n))) (sym next) (spare_from (a + 1) n (omega (arith, e))))
 
   all_free : (n : ℕ) → n ≡ k.items → 0 < n → Spare k ws 1 (range_with_len 0 n)
   all_free zero e l = absurd (omega arith)

@@ -1,5 +1,5 @@
 -- What the heads, the items and the free list of a table hold: a map from prefixes to what is known of each.
-use Rattle.std.specs.Prelude.{ℕ, ◌≡◌, ◌+◌, ◌/◌, ◌%◌, ◌^◌, ◌<◌, ◌==◌, ◌⊎◌, List, [], ◌∷◌, ◌++◌, length, slice_index, take, Bool, Option, Some, None}
+use Rattle.std.specs.Prelude.{ℕ, zero, suc, ◌≡◌, ◌+◌, ◌/◌, ◌%◌, ◌^◌, ◌<◌, ◌==◌, ◌⊎◌, List, [], ◌∷◌, ◌++◌, length, slice_index, take, Bool, Option, Some, None, if◌then◌else◌}
 use Rattle.std.specs.List.{AllByRecursion}
 use Rattle.key_bytes.specs.Fnv.{prefix_hash}
 use Rattle.anchor_rules.specs.Items.{Item}
@@ -60,10 +60,22 @@ abbrev pub HasEntry : ℕ → List ℕ → List Entry → Type 0
 HasEntry i name [] = ⊥
 HasEntry i name (e ∷ es) = ((e.at ≡ i) × (e.name ≡ name)) ⊎ HasEntry i name es
 
--- from this link on the free list has just these places
+-- The free item behind the one at a place of so many, as place + 1 or 0, by that one's link. A link of 0 names the
+-- item at the next place, if there is one: so items whose words were never written are free in the order of their
+-- places. Any other link is what it names, and 1 more.
+abbrev pub named_free : ℕ → ℕ → ℕ → ℕ
+named_free items i zero = if i + 1 == items then 0 else i + 2
+named_free items i (suc n) = n
+
+-- the free item behind a free one
+abbrev pub free_after : Shape → List ℕ → ℕ → ℕ
+free_after k ws i = named_free k.items i (item_at k ws i).next
+
+-- From this on, a place + 1 or 0, the free list has just these places. A free item's link is read by `named_free`, and
+-- not as that of an item in a bucket.
 abbrev pub Spare : Shape → List ℕ → ℕ → List ℕ → Type 0
 Spare k ws link [] = link ≡ 0
-Spare k ws link (i ∷ is) = (link ≡ i + 1) × Spare k ws (item_at k ws i).next is
+Spare k ws link (i ∷ is) = (link ≡ i + 1) × Spare k ws (free_after k ws i) is
 
 -- no number stands twice
 abbrev pub Unlike : List ℕ → Type 0

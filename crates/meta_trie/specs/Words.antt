@@ -8,7 +8,7 @@ use Rattle.row_words.specs.declared.rows.ItemRow.{ItemRow}
 use Rattle.row_words.specs.Layout.{longest_word, live_word, item_word, head_word, leaf_word}
 use Rattle.row_words.specs.Shape.{IsShape}
 use Rattle.row_words.specs.Decode.{head_at, hash_at, item_at, mark_at, anchor_at, previous_at, next_at, IsLive}
-use Rattle.meta_trie.specs.Trie.{bucket_of, used_of, free_of}
+use Rattle.meta_trie.specs.Trie.{bucket_of, used_of, free_of, free_after}
 
 -- the words from a place on are these, and the others stay
 pub record Put (old new : List ℕ) (from : ℕ) (values : List ℕ) : Type 0 where
@@ -42,7 +42,7 @@ pub record Linked (k : Shape) (old new : List ℕ) (i : ℕ) (name : List ℕ) (
   pub anchors : SameAnchors k old new
   pub rest : SameRest k old new
   pub used : used_of new ≡ used_of old + 1
-  pub free : free_of new ≡ (item_at k old i).next
+  pub free : free_of new ≡ free_after k old i
 
 -- an item was written anew behind its hash and its link
 pub record Changed (k : Shape) (old new : List ℕ) (i : ℕ) (row : ItemRow) : Type 0 where
@@ -57,7 +57,7 @@ pub record Changed (k : Shape) (old new : List ℕ) (i : ℕ) (row : ItemRow) : 
 
 -- an item was taken out of its bucket, from behind this link, and is the first free one
 pub record Unlinked (k : Shape) (old new : List ℕ) (i before bucket : ℕ) : Type 0 where
-  pub gone : (item_at k new i).next ≡ free_of old
+  pub gone : free_after k new i ≡ free_of old
   pub items : (j : ℕ) → j ≢ i → j < k.items → item_at k new j ≡ record (item_at k old j) { next = if before == j + 1 then (item_at k old i).next else (item_at k old j).next }
   pub hashes : (j : ℕ) → j ≢ i → j < k.items → hash_at k new j ≡ hash_at k old j
   pub head : head_at k new bucket ≡ (if before == 0 then (item_at k old i).next else head_at k old bucket)
@@ -99,17 +99,11 @@ pub record Written (k : Shape) (old new : List ℕ) (i b hash next used free : �
   pub third : Put w2 new 1 (used ∷ free ∷ [])
   pub codes : Codes row next link sides (b0 ∷ b1 ∷ b2 ∷ b3 ∷ [])
 
--- the first n items are linked in the order of their places, and all other words are 0
-pub record FreeWords (k : Shape) (ws : List ℕ) (n : ℕ) : Type 0 where
-  pub links : (j : ℕ) → j + 1 < n → slice_index ws (item_word k j + 1) ≡ j + 2
-  pub zero : (x : ℕ) → ((j : ℕ) → j + 1 < n → x ≢ item_word k j + 1) → slice_index ws x ≡ 0
-
 -- no item is used, and leaf 0 is the only live one, with the empty anchor
 pub record Bare (k : Shape) (ws : List ℕ) : Type 0 where
   pub ranges : IsShape k
   pub heads : (b : ℕ) → b < k.heads → head_at k ws b ≡ 0
-  pub links : (j : ℕ) → j + 1 < k.items → (item_at k ws j).next ≡ j + 2
-  pub last : (j : ℕ) → j + 1 ≡ k.items → (item_at k ws j).next ≡ 0
+  pub links : (j : ℕ) → j < k.items → (item_at k ws j).next ≡ 0
   pub longest : slice_index ws longest_word ≡ 0
   pub used : used_of ws ≡ 0
   pub free : free_of ws ≡ 1

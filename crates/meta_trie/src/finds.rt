@@ -5,6 +5,7 @@ ghost use Rattle.key_bytes.specs.Fnv.{prefix_hash};
 ghost use Rattle.anchor_rules.specs.Items.{Item};
 ghost use Rattle.meta_trie.specs.Trie.{Holds, IsTrie, Walked, bucket_of};
 
+use crate::buckets::bucket_by_hash;
 use row_words::{ItemRow, Probe, Rows};
 use std::sync::ledger::Ledger;
 use steps::Steps;
@@ -19,6 +20,7 @@ pub(crate) struct Found {
 }
 
 /// The place and item of this prefix, whose hash is given.
+#[inline]
 pub(crate) fn find<R: Rows, L: Ledger>(
     rows: &mut R,
     prefix: &[u8],
@@ -33,7 +35,7 @@ pub(crate) fn find<R: Rows, L: Ledger>(
     ensures shape { R.shape rows.new ≡ R.shape rows.old }
     ensures stays { R.stays rows.old rows.new }
 {
-    let bucket = (hash % rows.heads() as u64) as u32;
+    let bucket = bucket_by_hash(hash, rows.heads());
     let mut before = 0;
     let mut link = rows.head(bucket);
     while link != 0 {

@@ -3,10 +3,12 @@
 #![tactic(auto)]
 
 mod adds;
+mod buckets;
 mod builds;
 mod changes;
 mod finds;
 mod free_leaves;
+mod free_links;
 mod grows;
 mod leaf_rows;
 mod links;
@@ -19,7 +21,7 @@ mod unlinks;
 
 pub use adds::add_anchor;
 pub use builds::build;
-pub use free_leaves::free_leaf;
+pub use free_leaves::{free_leaf, free_leaf_from};
 pub use looks::{look, look_by_hash};
 pub use removes::remove_anchor;
-pub use starts::start;
+pub use starts::{start, start_zeroed};

@@ -4,8 +4,10 @@ ghost use Rattle.std.specs.Prelude.{◌≡◌, ◌<◌, ◌≤◌, ◌+◌, ◌/
 ghost use Rattle.key_bytes.specs.Fnv.{prefix_hash};
 ghost use Rattle.row_words.specs.Decode.{head_at, item_at};
 ghost use Rattle.meta_trie.specs.Words.{Written, Linked};
-ghost use Rattle.meta_trie.specs.Trie.{IsTrie, free_of};
+ghost use Rattle.meta_trie.specs.Trie.{IsTrie, free_of, free_after};
 
+use crate::buckets::bucket_by_hash;
+use crate::free_links::free_by_link;
 use crate::puts::put;
 use row_words::{ItemRow, RowsMut};
 
@@ -79,7 +81,7 @@ fn first_free<R: RowsMut>(rows: &mut R) -> u32
     (rows.word(2) - 1) as u32
 }
 
-/// The first free item behind one.
+/// The link of the item at a place: of one in a bucket the next item as place + 1, or 0.
 pub(crate) fn next_of<R: RowsMut>(rows: &mut R, at: u32) -> u32
     requires { at < (R.shape rows.old).items }
     ensures next { result ≡ (item_at (R.shape rows.old) (R.words rows.old) at).next }
@@ -89,6 +91,19 @@ pub(crate) fn next_of<R: RowsMut>(rows: &mut R, at: u32) -> u32
 {
     let base = rows.layout().item_word(at);
     (rows.word(base + 1) % 4_294_967_296) as u32
+}
+
+/// The free item behind the free one at a place, as place + 1, or 0.
+fn free_behind<R: RowsMut>(rows: &mut R, at: u32) -> u32
+    requires { at < (R.shape rows.old).items }
+    ensures free { result ≡ free_after (R.shape rows.old) (R.words rows.old) at }
+    ensures words { R.words rows.new ≡ R.words rows.old }
+    ensures shape { R.shape rows.new ≡ R.shape rows.old }
+    ensures stays { R.stays rows.old rows.new }
+{
+    let items = rows.layout().items;
+    let link = next_of(rows, at);
+    free_by_link(items, at, link)
 }
 
 /// Makes the first free item that of this prefix, whose hash is given, at the front of its bucket.
@@ -102,11 +117,11 @@ pub(crate) fn link_item<R: RowsMut>(rows: &mut R, prefix: &[u8], hash: u64, item
     ensures shape { R.shape rows.new ≡ R.shape rows.old }
     ensures stays { R.stays rows.old rows.new }
 {
-    let bucket = (hash % rows.heads() as u64) as u32;
+    let bucket = bucket_by_hash(hash, rows.heads());
     let at = first_free(rows);
     let next = rows.head(bucket);
     let used = rows.word(1);
-    let free = next_of(rows, at);
+    let free = free_behind(rows, at);
     write_item(rows, at, bucket, hash, item, next, used + 1, free as u64);
     at
 }

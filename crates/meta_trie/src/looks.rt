@@ -32,6 +32,7 @@ pub fn look<R: Rows, L: Ledger>(
 }
 
 /// [`look`] for a prefix whose hash is known already.
+#[inline]
 pub fn look_by_hash<R: Rows, L: Ledger>(
     rows: &mut R,
     prefix: &[u8],

@@ -8,6 +8,7 @@ ghost use Rattle.meta_trie.specs.Trie.{Says, bit_of};
 ghost use Rattle.meta_trie.specs.Words.{SameRest};
 ghost use Rattle.meta_trie.specs.Shrinks.{Shrinks, Shrinking, IsShrinking, shrunk_by};
 
+use crate::buckets::bucket_by_hash;
 use crate::changes::change_item;
 use crate::finds::find;
 use crate::grows::kept_or;
@@ -137,7 +138,7 @@ fn shrink_gone<R: RowsMut, L: Ledger>(
     let Some(found) = find(rows, &anchor[..n], hash, steps) else {
         unreachable!();
     };
-    let bucket = (hash % rows.heads() as u64) as u32;
+    let bucket = bucket_by_hash(hash, rows.heads());
     unlink_item(rows, found.at, found.before, bucket);
 }
 

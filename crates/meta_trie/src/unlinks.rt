@@ -4,6 +4,7 @@ ghost use Rattle.std.specs.Prelude.{◌≡◌, ◌≢◌, ◌<◌, ◌≤◌, �
 ghost use Rattle.meta_trie.specs.Trie.{free_of, used_of};
 ghost use Rattle.meta_trie.specs.Words.{NextSet, Relinked, Unlinked};
 
+use crate::free_links::free_link;
 use crate::links::next_of;
 use crate::puts::put;
 use row_words::RowsMut;
@@ -51,15 +52,15 @@ pub(crate) fn unlink_item<R: RowsMut>(rows: &mut R, at: u32, before: u32, bucket
     requires apart { before ≢ at + 1 }
     requires bucket { bucket < (R.shape rows.old).heads }
     requires used { 0 < used_of (R.words rows.old) }
-    requires free { free_of (R.words rows.old) < 4294967296 }
+    requires free { free_of (R.words rows.old) < 4294967295 }
     ensures words { Unlinked (R.shape rows.old) (R.words rows.old) (R.words rows.new) at before bucket }
     ensures shape { R.shape rows.new ≡ R.shape rows.old }
     ensures stays { R.stays rows.old rows.new }
 {
-    let free = rows.word(2) as u32;
+    let link = free_link(rows.word(2) as u32);
     let used = rows.word(1);
     let next = next_of(rows, at);
     relink(rows, before, bucket, next);
-    relink(rows, at + 1, bucket, free);
+    relink(rows, at + 1, bucket, link);
     put(rows, 1, &[used - 1, at as u64 + 1]);
 }

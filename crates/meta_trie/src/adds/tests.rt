@@ -1,7 +1,7 @@
-//! Tables made by `start` and `add_anchor`, as they run.
+//! Tables made by `start_zeroed` and `add_anchor`, as they run.
 
 use super::*;
-use crate::{free_leaf, start};
+use crate::{free_leaf, start_zeroed};
 use row_words::{Shape, VecRows};
 use std::test::Fail;
 
@@ -21,7 +21,7 @@ const SMALL: Shape = Shape {
 #[test]
 fn adds_an_anchor(rt: HostRuntime) -> Result<(), Fail> {
     let mut rows = VecRows::new(rt.alloc(), &SMALL)?;
-    start(&mut rows);
+    start_zeroed(&mut rows);
     assert_eq!(rt; free_leaf(&mut rows), Ok(1));
     let jo = Key::new(rt.alloc(), b"Jo")?;
     add_anchor(&mut rows, 0, &jo, 1)?;

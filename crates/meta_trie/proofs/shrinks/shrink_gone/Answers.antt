@@ -1,4 +1,4 @@
-use Rattle.std.proofs.Common.{◌≡◌, ◌%◌, take, arith}
+use Rattle.std.proofs.Common.{◌≡◌, take, arith}
 use Rattle.meta_trie.specs.Trie.{bucket_of}
 use Rattle.meta_trie.proofs.Growing.{counts_shared}
 use Rattle.meta_trie.proofs.Leaving.{found_always, place, free_small, gone_step}
@@ -34,7 +34,7 @@ pub returns-clause-shrunk : goal.returns-clause-shrunk
 returns-clause-shrunk g c = λ A leaf lo hi shrinks s.
     let count = counts_shared lo c.args.anchor.now hi in
     let f = c.in-Some.ensures.value _ s.trie in
-    let bucket : c.args.hash % c.heads.result ≡ bucket_of (g.R.Rows.shape c.args.rows.now) (take c.args.n c.args.anchor.now) = cc in
+    let bucket : c.bucket_by_hash-bucket.result ≡ bucket_of (g.R.Rows.shape c.args.rows.now) (take c.args.n c.args.anchor.now) = cc in
     let u = rw (c.find.ensures.shape, c.find.ensures.words, bucket) at c.unlink_item.ensures.words in
     gone_step (g.R.Rows.shape c.args.rows.now) (g.R.Rows.words c.args.rows.now) (g.R.Rows.words c.unlink_item.new.rows) A leaf lo c.args.anchor.now hi c.args.left c.args.after c.args.front c.args.back c.args.n shrinks s c.requires.within c.in-Some.found f
     (omega (arith, c.requires.alone, shrinks.front_is, shrinks.back_is, count)) u

@@ -14,7 +14,7 @@ returns-clause-words g c =
     let r1 = rw (shape, words) at c.relink.ensures.words in
     let shape2 : g.R.Rows.shape c.relink.new.rows ≡ g.R.Rows.shape c.args.rows.now = c.relink.ensures.shape ∙ shape in
     let r2 = rw shape2 at c.relink-2.ensures.words in
-    unlinked_words _ _ _ _ _ _ _ _ _ _ _ c.requires.at c.requires.bucket next c.word-free.ensures.value less (g.met.R.Rows.ranges c.args.rows.now).items.1 r1 r2 c.put.ensures.words
+    unlinked_words _ _ _ _ _ _ _ _ _ _ _ c.requires.at c.requires.bucket next (c.free_link-link.ensures (g.R.Rows.shape c.args.rows.now).items c.args.at ∙ c.word.ensures.value) less (g.met.R.Rows.ranges c.args.rows.now).items.1 r1 r2 c.put.ensures.words
 
 pub returns-clause-stays : goal.returns-clause-stays
-returns-clause-stays g c = let t = g.met.R.Rows.stays_trans in t _ _ _ (t _ _ _ (t _ _ _ (t _ _ _ (t _ _ _ c.word-free.ensures.stays c.word-used.ensures.stays) c.next_of-next.ensures.stays) c.relink.ensures.stays) c.relink-2.ensures.stays) c.put.ensures.stays
+returns-clause-stays g c = let t = g.met.R.Rows.stays_trans in t _ _ _ (t _ _ _ (t _ _ _ (t _ _ _ (t _ _ _ c.word.ensures.stays c.word-used.ensures.stays) c.next_of-next.ensures.stays) c.relink.ensures.stays) c.relink-2.ensures.stays) c.put.ensures.stays

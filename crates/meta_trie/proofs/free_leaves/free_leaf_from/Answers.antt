@@ -1,9 +1,19 @@
-use Rattle.std.proofs.Common.{◌≡◌, ℕ, List, get_or, arith, sym, ap, ◌∙◌, below_more}
+use Rattle.std.proofs.Common.{◌≡◌, ℕ, List, get_or, arith, refl, sym, ap, ◌∙◌, below_more}
 use Rattle.row_words.specs.declared.shape.Shape.{Shape}
 use Rattle.row_words.specs.Layout.{leaf_word}
 use Rattle.row_words.specs.Decode.{mark_at}
-use Rattle.meta_trie.proofs.LeafRows.{leaf_dead, leaf_lives, leaves_fit}
-use Rattle.meta_trie.proofs.free_leaves.free_leaf.Goals as goal
+use Rattle.meta_trie.proofs.LeafRows.{leaf_dead, leaf_lives, leaves_fit, live_leaf}
+use Rattle.meta_trie.proofs.free_leaves.free_leaf_from.Goals as goal
+
+pub loop-leaf-init : goal.loop-leaf-init
+loop-leaf-init g c =
+    let s = c.requires.table.1 in
+    record {
+      live = λ leaf l e. let live = live_leaf (g.R.Rows.shape c.args.rows.now) (g.R.Rows.words c.args.rows.now) c.requires.table.0 0 leaf s.chained (c.requires.live c.requires.table.0 s leaf l) in omega (arith, live.1, e);
+      words = refl;
+      shape = refl;
+      stays = g.met.R.Rows.stays_refl _;
+    }
 
 pub loop-leaf-preserved : goal.loop-leaf-preserved
 loop-leaf-preserved g c =
@@ -29,8 +39,8 @@ returns-then-word-eq0-clause-ok g c =
 
 pub overflow_cast-used : goal.overflow_cast-used
 overflow_cast-used g c =
-    let s = c.requires.1 in
-    let fit = leaves_fit _ _ c.requires.0 s in
+    let s = c.requires.table.1 in
+    let fit = leaves_fit _ _ c.requires.table.0 s in
     let most = s.trie.ranges.leaves.1 in
     let used : c.word-used.result ≡ get_or (g.R.Rows.words c.args.rows.now) 3 0 = c.word-used.ensures.value ∙ ap (λ (w : List ℕ). get_or w 3 0) c.loop-leaf.invariant.words in
     omega (arith, fit, most, used, s.live)

@@ -1,6 +1,6 @@
 use Rattle.std.proofs.Common.{◌≡◌, ◌≢◌, ◌<◌, ℕ}
 use Rattle.row_words.specs.Decode.{mark_at}
-use Rattle.meta_trie.proofs.free_leaves.free_leaf.Given as goal
+use Rattle.meta_trie.proofs.free_leaves.free_leaf_from.Given as goal
 
 abbrev pub invariant-loop-leaf : goal.invariant-loop-leaf
 invariant-loop-leaf g l = record {
