@@ -1,8 +1,8 @@
 -- The child of a prefix that is next below a key.
 use Rattle.std.proofs.Common.{◌≡◌, ◌≢◌, ℕ, ◌<◌, List, [], ◌∷◌, ◌++◌, length, take, drop, get_or, cond, Bool, true, false, Option, Some, None, refl, sym, ap, ◌∙◌, arith}
-use Rattle.anchor_rules.specs.Anchors.{Anchors, AreAnchors, Span, span, target}
+use Rattle.anchor_rules.specs.Anchors.{Anchors, AreAnchors, target}
 use Rattle.anchor_rules.specs.Items.{Item, item, is_prefix, under, last_leaf, greatest_below, child_below, end_by, IsLongest, leaf_before}
-use Rattle.anchor_rules.proofs.ItemParts.{item_is, some_item, rightmost_begins}
+use Rattle.anchor_rules.proofs.ItemParts.{item_is, some_item}
 use Rattle.anchor_rules.proofs.Ends.{greatest_some, ends_at-target}
 use Rattle.row_words.specs.declared.rows.ItemRow.{ItemRow}
 use Rattle.meta_trie.specs.Trie.{bit_of, Says}
@@ -30,13 +30,6 @@ row_known A p here none = let some = some_item A p here in clash (item A p) some
   where
     clash : (o : Option Item) (it : Item) → o ≡ None → o ≡ Some it → ⊥
     clash o it a b = cc
-
--- the last leaf of a prefix is in the list
-pub last_in : (A : Anchors) (p : List ℕ) → AreAnchors A → is_prefix A p ≡ true → (s : Span) × (span A (last_leaf (under A p)) ≡ Some s)
-last_in A p are here =
-    let some = some_item A p here in
-    let r = rightmost_begins A p some.0 are.rises some.1 in
-    (r.0, ap (span A) (sym (item_is A p some.0 some.1).last) ∙ r.1)
 
 -- where a search ends, by what its last row says
 pub ends_in_child : (A : Anchors) (key : List ℕ) (n : ℕ) (it : Item) (d : ℕ) → AreAnchors A → IsLongest A key n it → child_below it (drop n key) ≡ Some d → last_leaf (under A (take n key ++ d ∷ [])) ≡ target A key

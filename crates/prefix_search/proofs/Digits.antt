@@ -1,5 +1,5 @@
 -- Binary digits, and a search by halves.
-use Rattle.std.proofs.Common.{◌≡◌, ℕ, ◌+◌, ◌*◌, ◌/◌, ◌^◌, ◌<◌, ◌≤◌, inl, inr, Bool, true, false, cond, zero, suc, refl, ap, arith}
+use Rattle.std.proofs.Common.{◌≡◌, ℕ, ◌+◌, ◌*◌, ◌^◌, ◌<◌, ◌≤◌, inl, inr, Bool, true, false, cond, zero, suc, refl, ap, arith}
 use Rattle.std.specs.Prelude.{nat_le, codes, [], ◌∷◌}
 use Rattle.std.proofs.Math.Nat.{pow-suc}
 use Rattle.std.proofs.lemmas.Nat.{pow_pos, pow_below}
@@ -43,15 +43,35 @@ pub record Left (width steps most c : ℕ) : Type 0 where
   pub narrow : width < 2 ^ digits
   pub paid : steps + digits * c ≤ most
 
-half_of : (digits width steps most c width' steps' : ℕ) → width < 2 ^ digits → steps + digits * c ≤ most → 0 < width → width' ≤ width / 2 → steps' ≤ steps + c → Left width' steps' most c
-half_of zero width steps most c width' steps' narrow paid some half cost = absurd (omega arith)
-half_of (suc n) width steps most c width' steps' narrow paid some half cost =
-    let two = pow-suc 2 n in
-    record { digits = n; narrow = omega (arith, two, narrow, half); paid = grind arith }
+-- a look leaves a digit less to search: n of them wherever one more was enough before
+abbrev pub IsLess : ℕ → ℕ → Type 0
+IsLess width width' = (n : ℕ) → width < 2 * 2 ^ n → width' < 2 ^ n
 
--- a look that costs at most c halves the width
-pub left_half : (width steps most c width' steps' : ℕ) → Left width steps most c → 0 < width → width' ≤ width / 2 → steps' ≤ steps + c → Left width' steps' most c
-left_half width steps most c width' steps' l some half cost = half_of l.digits width steps most c width' steps' l.narrow l.paid some half cost
+less_of : (digits width steps most c width' steps' : ℕ) → width < 2 ^ digits → steps + digits * c ≤ most → 0 < width → IsLess width width' → steps' ≤ steps + c → Left width' steps' most c
+less_of zero width steps most c width' steps' narrow paid some less cost = absurd (omega arith)
+less_of (suc n) width steps most c width' steps' narrow paid some less cost =
+    let two = pow-suc 2 n in
+    record { digits = n; narrow = less n (omega (arith, two, narrow)); paid = grind arith }
+
+-- a look that costs at most c takes a digit off
+pub left_less : (width steps most c width' steps' : ℕ) → Left width steps most c → 0 < width → IsLess width width' → steps' ≤ steps + c → Left width' steps' most c
+left_less width steps most c width' steps' l some less cost = less_of l.digits width steps most c width' steps' l.narrow l.paid some less cost
+
+power_le : (x y : ℕ) → x ≤ y → 2 ^ x ≤ 2 ^ y
+power_le x y le = elim (cases_order x y) [
+  | inl same ↦ omega (arith, ap (λ (m : ℕ). 2 ^ m) same)
+  | inr r ↦ elim r [ inl less ↦ let p = pow_below x y less in omega arith | inr more ↦ absurd (omega arith) ]
+]
+
+-- the top digit of a width that is below a power is of no greater power
+pub top_within : (j n width : ℕ) → 2 ^ j ≤ width → width < 2 * 2 ^ n → 2 ^ j ≤ 2 ^ n
+top_within j n width low high = elim (cases_order j n) [
+  | inl same ↦ power_le j n (omega arith)
+  | inr r ↦ elim r [
+    | inl less ↦ power_le j n (omega arith)
+    | inr more ↦ absurd (omega (arith, power_le (suc n) j (omega arith), pow-suc 2 n, low, high))
+  ]
+]
 
 -- the bound for the key `Josephine` among the empty anchor, `Jo` and `Jos`
 pub worked_bound : (c : ℕ) → bound (([], 0) ∷ (codes "Jo", 1) ∷ (codes "Jos", 2) ∷ []) (codes "Josephine") c ≡ 3 * c + 4

@@ -8,7 +8,7 @@ use Rattle.key_bytes.specs.Lengths.{AreBytes}
 use Rattle.key_bytes.specs.Order.{is_same}
 use Rattle.anchor_rules.specs.Anchors.{Anchors, Span, span, next_anchor, Rises, AreAnchors}
 use Rattle.anchor_rules.specs.Items.{Item, item, begins, is_anchor_of, longest_anchor, leaf_before}
-use Rattle.anchor_rules.proofs.ItemParts.{item_is, item_short, leftmost_begins, span_at}
+use Rattle.anchor_rules.proofs.ItemParts.{item_is, item_short, leftmost_begins}
 use Rattle.anchor_rules.proofs.ItemChanges.{Place, place_of}
 use Rattle.anchor_rules.proofs.Ends.{last_one, leaf_before_at, begins_empty}
 use Rattle.row_words.specs.declared.shape.Shape.{Shape}
@@ -116,7 +116,6 @@ at_leaf k ws A leaf s stands e = go place.back place.whole place.next
 pub record BeforeLeaf (k : Shape) (ws : List ℕ) (A : Anchors) (leaf : ℕ) : Type 0 where
   pub live : IsLive k ws leaf
   pub link : previous_at k ws leaf ≡ leaf_before A leaf + 1
-  pub next : IsFollowed A (leaf_before A leaf) (Some (anchor_at k ws leaf))
 
 some_same : (a b : List ℕ) → Some a ≡ Some b → a ≡ b
 some_same a b e = cc
@@ -137,11 +136,9 @@ before_leaf k ws A leaf s stands e some = go place.front place.whole
         let whole' : A ≡ ys ++ (y.0, y.1) ∷ (s.0, leaf) ∷ place.back = whole ∙ (ap (λ (l : Anchors). l ++ (s.0, leaf) ∷ place.back) last.1.1 ∙ append_assoc ys (y ∷ []) ((s.0, leaf) ∷ place.back)) in
         let rises = subst Rises whole' stands.anchors.rises in
         let leaf_is : leaf_before A leaf ≡ y.1 = ap (λ (l : Anchors). leaf_before l leaf) whole' ∙ leaf_before_at ys y s.0 leaf place.back rises in
-        let span_is : span A y.1 ≡ Some (y.0, Some s.0) = ap (λ (l : Anchors). span l y.1) whole' ∙ span_at ys y.0 y.1 ((s.0, leaf) ∷ place.back) rises in
         record {
           live = says.live;
           link = says.previous_is ∙ (ap (λ (l : Anchors). link_to l 0) last.1.1 ∙ (link_to-push ys y 0 ∙ ap (λ (n : ℕ). n + 1) (sym leaf_is)));
-          next = (y.0, ap (span A) leaf_is ∙ (span_is ∙ ap (λ (a : List ℕ). Some (y.0, Some a)) (sym says.anchor)));
         }
 
 -- the first anchor that begins with a prefix that isn't one itself isn't empty

@@ -10,6 +10,15 @@ pub struct Longest {
     pub item: ItemRow,
 }
 
+/// The leaf of a key, with the key's hash.
+#[derive(Debug, Clone, Copy)]
+pub struct Sought {
+    /// The leaf of the greatest anchor that isn't above the key.
+    pub leaf: u32,
+    /// The hash of the whole key, under the salt of the table.
+    pub hash: u64,
+}
+
 /// Where a key belongs.
 #[derive(Debug, Drop)]
 pub struct Located {

@@ -34,25 +34,17 @@ pub fn at_leaf<R: Rows, L: Ledger>(rows: &mut R, leaf: u32, steps: &mut Steps<L>
     }
 }
 
-/// The leaf before this one, which isn't the first. This one's row names it, and has the anchor
-/// that follows.
-pub(crate) fn before_leaf<R: Rows, L: Ledger>(
-    rows: &mut R,
-    leaf: u32,
-    steps: &mut Steps<L>,
-) -> Located
+/// The leaf before this one, which isn't the first. This one's row names it.
+#[inline]
+pub(crate) fn before_leaf<R: Rows, L: Ledger>(rows: &mut R, leaf: u32, steps: &mut Steps<L>) -> u32
     requires table { IsTable (R.shape rows.old) (R.words rows.old) }
     requires leaf { (A : Anchors) → StandsFor (R.shape rows.old) (R.words rows.old) A → (s : Span) × (span A leaf ≡ Some s) × (s.0 ≢ []) }
-    ensures leaf { (A : Anchors) → StandsFor (R.shape rows.old) (R.words rows.old) A → result.leaf ≡ leaf_before A leaf }
-    ensures next { (A : Anchors) → StandsFor (R.shape rows.old) (R.words rows.old) A → IsFollowed A result.leaf result.next }
+    ensures leaf { (A : Anchors) → StandsFor (R.shape rows.old) (R.words rows.old) A → result ≡ leaf_before A leaf }
     ensures cost { steps.new ≤ steps.old + 1 }
     ensures words { R.words rows.new ≡ R.words rows.old }
     ensures shape { R.shape rows.new ≡ R.shape rows.old }
     ensures stays { R.stays rows.old rows.new }
 {
     let row = rows.leaf(leaf, steps);
-    Located {
-        leaf: row.previous - 1,
-        next: Some(row.anchor),
-    }
+    row.previous - 1
 }

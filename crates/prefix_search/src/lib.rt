@@ -4,14 +4,17 @@
 
 mod answers;
 mod bits;
+mod hints;
 mod leaves;
 mod locates;
 mod longests;
+mod middles;
 mod roots;
 #[cfg(test)]
 mod tests;
 
-pub use answers::{Located, Longest};
+pub use answers::{Located, Longest, Sought};
+pub use hints::Hint;
 pub use leaves::at_leaf;
-pub use locates::locate;
+pub use locates::{locate, seek};
 pub use longests::longest;

@@ -1,12 +1,13 @@
 //! The longest prefix of a key that has an item.
 
-ghost use Rattle.std.specs.Prelude.{◌≡◌, ◌≤◌, ◌+◌, ◌*◌, ℕ, length, take};
+ghost use Rattle.std.specs.Prelude.{◌≡◌, ◌≤◌, ◌+◌, ◌*◌, ℕ, [], length, take, MatchOption};
 ghost use Rattle.key_bytes.specs.Fnv.{prefix_hash};
 ghost use Rattle.anchor_rules.specs.Anchors.{Anchors};
 ghost use Rattle.meta_trie.specs.Stands.{StandsFor, IsTable, MostInBucket};
-ghost use Rattle.prefix_search.specs.Search.{IsLongestOf, length_digits};
+ghost use Rattle.prefix_search.specs.Search.{IsLongestOf, Tells, length_digits};
 
 use crate::answers::Longest;
+use crate::middles::middle_of;
 use crate::roots::root;
 use key_bytes::{Fnv, Key};
 use meta_trie::look_by_hash;
@@ -25,7 +26,8 @@ pub(crate) struct Reached {
 /// The longest prefix of the key that has an item, and its item.
 ///
 /// This is a binary search on the length, which hashes on from the longest prefix known so far. It
-/// takes one step for the empty prefix and a look for each binary digit of the length.
+/// takes a look for each binary digit of the length, and a step for the empty prefix where no look
+/// finds anything.
 pub fn longest<R: Rows, L: Ledger>(rows: &mut R, key: &Key, steps: &mut Steps<L>) -> Longest
     requires { IsTable (R.shape rows.old) (R.words rows.old) }
     ensures longest { (A : Anchors) → StandsFor (R.shape rows.old) (R.words rows.old) A → IsLongestOf A key.now result.len result.item }
@@ -34,15 +36,21 @@ pub fn longest<R: Rows, L: Ledger>(rows: &mut R, key: &Key, steps: &mut Steps<L>
     ensures shape { R.shape rows.new ≡ R.shape rows.old }
     ensures stays { R.stays rows.old rows.new }
 {
-    let reached = reach(rows, key.bytes(), steps);
+    let reached = reach(rows, key.bytes(), 0, steps);
     Longest {
         len: reached.len as u32,
         item: reached.item,
     }
 }
 
-/// [`longest`] for these bytes, with the hash of the prefix.
-pub(crate) fn reach<R: Rows, L: Ledger>(rows: &mut R, key: &[u8], steps: &mut Steps<L>) -> Reached
+/// [`longest`] for these bytes, with the hash of the prefix. The first look is near the hint.
+#[inline]
+pub(crate) fn reach<R: Rows, L: Ledger>(
+    rows: &mut R,
+    key: &[u8],
+    hint: usize,
+    steps: &mut Steps<L>,
+) -> Reached
     requires { IsTable (R.shape rows.old) (R.words rows.old) }
     ensures within { result.len ≤ length key.now }
     ensures hash { result.hash ≡ prefix_hash (R.shape rows.old).salt (take result.len key.now) }
@@ -56,15 +64,15 @@ pub(crate) fn reach<R: Rows, L: Ledger>(rows: &mut R, key: &[u8], steps: &mut St
     let mut high = key.len().min(most);
     let mut low = 0;
     let mut hash = Fnv::start(rows.salt());
-    let mut item = root(rows, steps);
+    let mut found = None;
     while low < high {
-        let middle = low + (high - low + 1) / 2;
+        let middle = middle_of(low, high, hint);
         let further = Fnv::extend(hash, &key[low..middle]);
         match look_by_hash(rows, &key[..middle], further, steps) {
-            Some(found) => {
+            Some(item) => {
                 low = middle;
                 hash = further;
-                item = found;
+                found = Some(item);
             }
             None => high = middle - 1,
         }
@@ -72,6 +80,26 @@ pub(crate) fn reach<R: Rows, L: Ledger>(rows: &mut R, key: &[u8], steps: &mut St
     Reached {
         len: low,
         hash,
-        item,
+        item: item_or_root(rows, found, steps),
+    }
+}
+
+/// The item that was found, and without one that of the empty prefix, for one step.
+#[inline]
+fn item_or_root<R: Rows, L: Ledger>(
+    rows: &mut R,
+    found: Option<ItemRow>,
+    steps: &mut Steps<L>,
+) -> ItemRow
+    requires { IsTable (R.shape rows.old) (R.words rows.old) }
+    ensures item { MatchOption found ((A : Anchors) → StandsFor (R.shape rows.old) (R.words rows.old) A → Tells A [] result) (λ item. result ≡ item) }
+    ensures cost { steps.new ≤ steps.old + 1 }
+    ensures words { R.words rows.new ≡ R.words rows.old }
+    ensures shape { R.shape rows.new ≡ R.shape rows.old }
+    ensures stays { R.stays rows.old rows.new }
+{
+    match found {
+        Some(item) => item,
+        None => root(rows, steps),
     }
 }

@@ -1,4 +1,4 @@
-//! The item of the empty prefix, where each search begins.
+//! The item of the empty prefix, where a search ends that finds no other.
 
 ghost use Rattle.std.specs.Prelude.{◌≡◌, ◌+◌, []};
 ghost use Rattle.anchor_rules.specs.Anchors.{Anchors};
@@ -11,6 +11,7 @@ use std::sync::ledger::Ledger;
 use steps::Steps;
 
 /// The item of the empty prefix. It always stands in place 0, so one step finds it.
+#[inline]
 pub(crate) fn root<R: Rows, L: Ledger>(rows: &mut R, steps: &mut Steps<L>) -> ItemRow
     requires { IsTable (R.shape rows.old) (R.words rows.old) }
     ensures item { (A : Anchors) → StandsFor (R.shape rows.old) (R.words rows.old) A → Tells A [] result }

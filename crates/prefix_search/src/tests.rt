@@ -5,9 +5,9 @@ ghost use Rattle.anchor_rules.specs.Items.{first_leaf};
 ghost use Rattle.row_words.specs.VecRows.{shape_of, words_of};
 ghost use Rattle.meta_trie.specs.Stands.{StandsFor, IsTable};
 
-use crate::{locate, longest};
+use crate::{Hint, Sought, locate, longest, seek};
 use anchor_rules::Anchors;
-use key_bytes::Key;
+use key_bytes::{Key, prefix_hash};
 use meta_trie::{add_anchor, build, start};
 use row_words::{Shape, VecRows};
 use std::alloc::Global;
@@ -85,6 +85,32 @@ fn found(rows: &mut VecRows, alloc: Global, bytes: &[u8]) -> Result<(u32, u32), 
     Ok(search::<Brand>(rows, &key, Blank::new(1)))
 }
 
+// The leaf of a key and its hash, by themselves.
+fn only_leaf<L: Ledger>(rows: &mut VecRows, key: &Key, hint: &mut Hint, blank: Blank) -> Sought
+    requires name { blank.name ≡ L.name }
+    requires parts { blank.parts ≡ L.parts }
+    requires some { 0 < blank.parts }
+    requires table { IsTable (shape_of rows.old) (words_of rows.old) }
+    ensures { IsTable (shape_of rows.new) (words_of rows.new) }
+{
+    let mut steps = Steps::<L>::new(blank);
+    seek(rows, key, hint, &mut steps)
+}
+
+fn sought(
+    rows: &mut VecRows,
+    alloc: Global,
+    bytes: &[u8],
+    hint: &mut Hint,
+) -> Result<(u32, u64), Fail>
+    requires { IsTable (shape_of rows.old) (words_of rows.old) }
+    ensures { IsTable (shape_of rows.new) (words_of rows.new) }
+{
+    let key = Key::new(alloc, bytes)?;
+    let sought = only_leaf::<Brand>(rows, &key, hint, Blank::new(1));
+    Ok((sought.leaf, sought.hash))
+}
+
 #[test]
 fn keys_among_three_anchors(rt: HostRuntime) -> Result<(), Fail> {
     let mut added = three_anchors(rt.alloc())?;
@@ -107,6 +133,37 @@ fn keys_among_three_anchors(rt: HostRuntime) -> Result<(), Fail> {
         assert_eq!(rt;
             found(&mut built, rt.alloc(), key)?,
             (leaf, len),
+            "of {bytes}"
+        );
+    }
+    Ok(())
+}
+
+// The second time the hint is that of the searches before.
+#[test]
+fn keys_sought_twice_among_three_anchors(rt: HostRuntime) -> Result<(), Fail> {
+    let mut rows = three_anchors(rt.alloc())?;
+    let mut hint = Hint::new();
+    for (bytes, leaf) in [
+        ("J", 0),
+        ("Jn", 0),
+        ("Jo", 1),
+        ("Jor", 1),
+        ("Jos", 2),
+        ("Josephine", 2),
+        ("Jp", 2),
+        ("Jp", 2),
+        ("Josephine", 2),
+        ("Jos", 2),
+        ("Jor", 1),
+        ("Jo", 1),
+        ("Jn", 0),
+        ("J", 0),
+    ] {
+        let key = bytes.as_bytes();
+        assert_eq!(rt;
+            sought(&mut rows, rt.alloc(), key, &mut hint)?,
+            (leaf, prefix_hash(SMALL.salt, key)),
             "of {bytes}"
         );
     }

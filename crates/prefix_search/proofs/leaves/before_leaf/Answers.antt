@@ -1,6 +1,4 @@
-use Rattle.std.proofs.Common.{◌≡◌, ◌-◌, ◌+◌, ℕ, List, Some, sym, ◌∙◌, subst, arith}
-use Rattle.anchor_rules.specs.Items.{leaf_before}
-use Rattle.prefix_search.specs.Search.{IsFollowed}
+use Rattle.std.proofs.Common.{◌≡◌, ◌-◌, ◌+◌, ℕ, ◌∙◌, arith}
 use Rattle.prefix_search.proofs.Tables.{before_leaf}
 use Rattle.prefix_search.proofs.leaves.before_leaf.Goals as goal
 
@@ -22,10 +20,3 @@ pub returns-clause-leaf : goal.returns-clause-leaf
 returns-clause-leaf g c = λ A s.
     let l = c.requires.leaf A s in
     less_one _ _ (c.leaf-row.ensures.previous ∙ (before_leaf _ _ A _ l.0 s l.1 l.2).link)
-
-pub returns-clause-next : goal.returns-clause-next
-returns-clause-next g c = λ A s.
-    let l = c.requires.leaf A s in
-    let b = before_leaf _ _ A _ l.0 s l.1 l.2 in
-    subst (λ (n : ℕ). IsFollowed A n (Some c.leaf-row.result.anchor)) (sym (less_one _ _ (c.leaf-row.ensures.previous ∙ b.link)))
-    (subst (λ (x : List ℕ). IsFollowed A (leaf_before A c.args.leaf) (Some x)) (sym c.leaf-row.ensures.anchor) b.next)

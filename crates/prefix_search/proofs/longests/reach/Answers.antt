@@ -1,12 +1,15 @@
-use Rattle.std.proofs.Common.{◌≡◌, length, arith, sym, ap, ◌∙◌}
-use Rattle.std.specs.Prelude.{min}
+use Rattle.std.proofs.Common.{◌≡◌, ℕ, List, [], length, take, Option, Some, None, refl, arith, sym, ap, subst, ◌∙◌}
+use Rattle.std.specs.Prelude.{min, MatchOption}
 use Rattle.key_bytes.specs.Fnv.{fnv_start}
 use Rattle.key_bytes.proofs.Hashes.{prefix_hash-nil}
+use Rattle.anchor_rules.specs.Anchors.{Anchors}
 use Rattle.anchor_rules.specs.Items.{longest_anchor}
 use Rattle.anchor_rules.proofs.ItemParts.{item_closed}
+use Rattle.meta_trie.specs.Stands.{StandsFor}
+use Rattle.row_words.specs.declared.rows.ItemRow.{ItemRow}
 use Rattle.row_words.specs.declared.shape.Shape.{Shape}
-use Rattle.prefix_search.specs.Search.{length_digits}
-use Rattle.prefix_search.proofs.Digits.{left_half, below_digits}
+use Rattle.prefix_search.specs.Search.{Tells, length_digits}
+use Rattle.prefix_search.proofs.Digits.{left_less, below_digits}
 use Rattle.prefix_search.proofs.Hashing.{hash_on}
 use Rattle.prefix_search.proofs.Tables.{longest_is, none_past}
 use Rattle.prefix_search.proofs.longests.reach.Goals as goal
@@ -18,22 +21,21 @@ look_by_hash-requires-clause-hash g c =
 
 pub loop-low-init : goal.loop-low-init
 loop-low-init g c =
-    let root = rw (c.longest-most.ensures.shape, c.longest-most.ensures.words) at c.root-item.ensures.item in
     record {
-      words = c.root-item.ensures.words ∙ c.longest-most.ensures.words;
-      shape = c.root-item.ensures.shape ∙ c.longest-most.ensures.shape;
-      stays = g.met.R.Rows.stays_trans _ _ _ c.longest-most.ensures.stays c.root-item.ensures.stays;
+      words = c.longest-most.ensures.words;
+      shape = c.longest-most.ensures.shape;
+      stays = c.longest-most.ensures.stays;
       low_high = omega arith;
       high_key = omega (arith, c.min-high.ensures);
       hash = c.start-hash.ensures ∙ (ap fnv_start (c.salt.ensures ∙ ap (λ (k : Shape). k.salt) c.longest-most.ensures.shape) ∙ sym (prefix_hash-nil _));
-      known = root;
+      known = refl;
       longest = λ A s m lt le. none_past A c.args.key.now m (omega (arith, c.min-high.ensures, c.longest-most.ensures.value, longest_is _ _ A s)) le;
       cost = λ A s most fits. record {
         digits = length_digits A c.args.key.now;
         narrow =
             let high : c.min-high.result ≡ min (length c.args.key.now) (longest_anchor A) = c.min-high.ensures ∙ ap (min (length c.args.key.now)) (c.longest-most.ensures.value ∙ longest_is _ _ A s) in
             omega (arith, high, below_digits (min (length c.args.key.now) (longest_anchor A)));
-        paid = omega (arith, c.root-item.ensures.steps);
+        paid = omega arith;
       };
     }
 
@@ -50,7 +52,7 @@ loop-low-preserved-in-Some g c =
       hash = hash_on _ c.loop-low.hash _ c.loop-low.low _ c.args.key.now (omega arith) c.loop-low.invariant.hash c.extend-further.ensures;
       known = λ A s. let w = v A s in (w.0, w.1, w.2);
       longest = c.loop-low.invariant.longest;
-      cost = λ A s most fits. left_half _ _ _ _ _ _ (c.loop-low.invariant.cost A s most fits) (omega arith) (omega arith) (cost A s most fits);
+      cost = λ A s most fits. left_less _ _ _ _ _ _ (c.loop-low.invariant.cost A s most fits) (omega arith) c.middle_of-middle.ensures.narrow_above (cost A s most fits);
     }
 
 pub loop-low-preserved : goal.loop-low-preserved
@@ -66,10 +68,16 @@ loop-low-preserved g c =
       hash = c.loop-low.invariant.hash;
       known = c.loop-low.invariant.known;
       longest = λ A s m lt le. item_closed A c.args.key.now _ m (omega arith) (v A s);
-      cost = λ A s most fits. left_half _ _ _ _ _ _ (c.loop-low.invariant.cost A s most fits) (omega arith) (omega arith) (cost A s most fits);
+      cost = λ A s most fits. left_less _ _ _ _ _ _ (c.loop-low.invariant.cost A s most fits) (omega arith) c.middle_of-middle.ensures.narrow_below (cost A s most fits);
     }
+
+-- the item that was found, or that of the empty prefix
+told : (shape : Shape) (words : List ℕ) (found : Option ItemRow) (low : ℕ) (key : List ℕ) (item : ItemRow) → MatchOption found (low ≡ 0) (λ (row : ItemRow). (A : Anchors) → StandsFor shape words A → Tells A (take low key) row) → MatchOption found ((A : Anchors) → StandsFor shape words A → Tells A [] item) (λ (row : ItemRow). item ≡ row) → (A : Anchors) → StandsFor shape words A → Tells A (take low key) item
+told shape words None low key item is root A s = subst (λ (n : ℕ). Tells A (take n key) item) (sym is) (root A s)
+told shape words (Some row) low key item known same A s = subst (λ (r : ItemRow). Tells A (take low key) r) (sym same) (known A s)
 
 pub returns-clause-longest : goal.returns-clause-longest
 returns-clause-longest g c = λ A s.
-    let k = c.loop-low.invariant.known A s in
+    let item = rw (c.loop-low.invariant.shape, c.loop-low.invariant.words) at c.item_or_root.ensures.item in
+    let k = told _ _ c.loop-low.found c.loop-low.low c.args.key.now c.item_or_root.result c.loop-low.invariant.known item A s in
     (k.0, record { within = omega arith; known = k.1; none_longer = λ m lt le. c.loop-low.invariant.longest A s m (omega arith) le }, k.2)

@@ -1,0 +1,42 @@
+use Rattle.std.proofs.Common.{◌≡◌, ℕ, List, [], ◌∷◌, ◌++◌, drop, Some, sym, ap, ◌∙◌, arith}
+use Rattle.anchor_rules.specs.Anchors.{span}
+use Rattle.anchor_rules.specs.Items.{item, child_below, under, last_leaf, leaf_before}
+use Rattle.prefix_search.proofs.Children.{child_prefix, ends_in_child, ends_at_anchor, ends_before}
+use Rattle.prefix_search.proofs.Tables.{inner_anchor}
+use Rattle.prefix_search.proofs.locates.leaf_from.Goals as goal
+
+pub last_of_child-requires-clause-child : goal.last_of_child-requires-clause-child
+last_of_child-requires-clause-child g c = λ A s.
+    let w = c.requires.longest A s in
+    child_prefix A c.split_at.result.0.now c.split_at.result.1.now w.0 c.in-Some.byte (ap (item A) c.split_at.ensures.front ∙ w.1.known) (sym (c.in-Some.ensures w.0 w.2))
+
+pub before_leaf-requires-clause-leaf : goal.before_leaf-requires-clause-leaf
+before_leaf-requires-clause-leaf g c = λ A s.
+    let w = c.requires.longest A s in
+    let r = inner_anchor A _ w.0 s.anchors w.1.known (sym w.2.anchor ∙ c.if-reached.false) in
+    (r.0, ap (span A) w.2.first ∙ r.1, r.2)
+
+pub returns-in-Some-clause-leaf : goal.returns-in-Some-clause-leaf
+returns-in-Some-clause-leaf g c = λ A s.
+    let key : List ℕ = c.args.key.now in
+    let len : ℕ = c.args.reached.now.len in
+    let w = c.requires.longest A s in
+    let child : child_below w.0 (drop len key) ≡ Some c.in-Some.byte = ap (child_below w.0) (sym c.split_at.ensures.back) ∙ sym (c.in-Some.ensures w.0 w.2) in
+    c.last_of_child.ensures.leaf A s ∙ (ap (λ (p : List ℕ). last_leaf (under A (p ++ c.in-Some.byte ∷ []))) c.split_at.ensures.front ∙ ends_in_child A key len w.0 c.in-Some.byte s.anchors w.1 child)
+
+pub returns-in-Some-clause-cost : goal.returns-in-Some-clause-cost
+returns-in-Some-clause-cost g c = λ A s most fits. omega (arith, c.last_of_child.ensures.cost A s most fits)
+
+pub returns-then-reached-clause-leaf : goal.returns-then-reached-clause-leaf
+returns-then-reached-clause-leaf g c = λ A s.
+    let key : List ℕ = c.args.key.now in
+    let len : ℕ = c.args.reached.now.len in
+    let w = c.requires.longest A s in
+    w.2.first ∙ ends_at_anchor A key len w.0 s.anchors w.1 (ap (child_below w.0) (sym c.split_at.ensures.back) ∙ sym (c.in-None.ensures w.0 w.2)) (sym w.2.anchor ∙ c.if-reached.true)
+
+pub returns-else-reached-clause-leaf : goal.returns-else-reached-clause-leaf
+returns-else-reached-clause-leaf g c = λ A s.
+    let key : List ℕ = c.args.key.now in
+    let len : ℕ = c.args.reached.now.len in
+    let w = c.requires.longest A s in
+    c.before_leaf.ensures.leaf A s ∙ (ap (leaf_before A) w.2.first ∙ ends_before A key len w.0 s.anchors w.1 (ap (child_below w.0) (sym c.split_at.ensures.back) ∙ sym (c.in-None.ensures w.0 w.2)) (sym w.2.anchor ∙ c.if-reached.false))
