@@ -1,7 +1,9 @@
 pub mod Beside
 pub mod Leaves
 pub mod Lengths
+pub mod LiveLeaves
 pub mod Merging
+pub mod Overwritten
 pub mod PartEnds
 pub mod Ranges
 pub mod Readings
@@ -11,3 +13,4 @@ pub mod Standing
 pub mod TableSizes
 pub mod WholeCalls
 pub mod Written
+pub mod Zeros

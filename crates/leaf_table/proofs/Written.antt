@@ -8,7 +8,7 @@ use Rattle.std.proofs.lemmas.List.{length-set}
 use Rattle.std.specs.declared.cmp.Ordering.TheVariants.{Less}
 use Rattle.key_bytes.specs.Bound.{bound_cmp}
 use Rattle.key_bytes.specs.declared.bound.Bound.{Bound}
-use Rattle.anchor_rules.specs.Anchors.{Span, with_split, with_merge, adjacent, target}
+use Rattle.anchor_rules.specs.Anchors.{Anchors, Span, with_split, with_merge, adjacent, target}
 use Rattle.leaf_store.specs.Leaf.{LeafMap}
 use Rattle.map_model.specs.Maps.{Pairs, find, with, without, between, is_in, sorted}
 use Rattle.map_model.specs.declared.refusal.TableFull.{TableFull}
@@ -18,9 +18,9 @@ use Rattle.prefix_search.specs.Search.{IsFollowed}
 use Rattle.row_words.specs.declared.shape.Shape.{Shape}
 use Rattle.leaf_table.specs.Changes.{stay_count, parting, IsSplit, IsMerged, HasNoRoom}
 use Rattle.leaf_table.specs.Facts.{leaf_from, part_end}
-use Rattle.leaf_table.specs.Leaves.{map_at, table_of, IsLeafTable}
+use Rattle.leaf_table.specs.Leaves.{map_at, HaveSalt, table_of, IsLeafTable}
 use Rattle.leaf_table.specs.Table.{Table, pairs_at, size_at}
-use Rattle.leaf_table.proofs.Leaves.{map_read, map_written, map_unwritten}
+use Rattle.leaf_table.proofs.Leaves.{map_read, map_written, map_unwritten, salt_read, salt_written}
 use Rattle.leaf_table.proofs.Merging.{adjacent_live, adjacent_apart, merge_apart}
 use Rattle.leaf_table.proofs.PartEnds.{part_pairs, part_end_above, length_keep}
 use Rattle.leaf_table.proofs.Standing.{leaf_in_range, leaf_size}
@@ -60,10 +60,25 @@ moved k same_k ws same_ws leaves keys t e f are = subst (λ (j : Shape). AreTabl
 pub moved_split : (k same_k : Shape) (ws same_ws : List ℕ) (left right : ℕ) (anchor : List ℕ) → same_k ≡ k → same_ws ≡ ws → CanSplit k ws left anchor right → CanSplit same_k same_ws left anchor right
 moved_split k same_k ws same_ws left right anchor e f can = subst (λ (j : Shape). CanSplit j same_ws left anchor right) (sym e) (subst (λ w. CanSplit k w left anchor right) (sym f) can)
 
+-- rows with the same shape and words stand for the same anchors
+same_anchors : (k same_k : Shape) (ws same_ws : List ℕ) (A : Anchors) → same_k ≡ k → same_ws ≡ ws → StandsFor k ws A → StandsFor same_k same_ws A
+same_anchors k same_k ws same_ws A shape words s = subst (λ (x : Shape). StandsFor x same_ws A) (sym shape) (subst (λ (l : List ℕ). StandsFor k l A) (sym words) s)
+
+-- so what a split told of these rows it told of those
+pub split_told : (k same_k : Shape) (ws same_ws new_ws : List ℕ) (left right : ℕ) (anchor : List ℕ) → same_k ≡ k → same_ws ≡ ws → ((A : Anchors) → StandsFor same_k same_ws A → StandsFor same_k new_ws (with_split A left anchor right)) → (A : Anchors) → StandsFor k ws A → StandsFor k new_ws (with_split A left anchor right)
+split_told k same_k ws same_ws new_ws left right anchor shape words told A s = subst (λ (x : Shape). StandsFor x new_ws (with_split A left anchor right)) shape (told A (same_anchors k same_k ws same_ws A shape words s))
+
+pub full_told : (k same_k : Shape) (ws same_ws : List ℕ) (left : ℕ) (anchor : List ℕ) (full : TableFull) → same_k ≡ k → same_ws ≡ ws → ((A : Anchors) → StandsFor same_k same_ws A → AreItemsFull same_k A left anchor full) → (A : Anchors) → StandsFor k ws A → AreItemsFull k A left anchor full
+full_told k same_k ws same_ws left anchor full shape words told A s = subst (λ (x : Shape). AreItemsFull x A left anchor full) shape (told A (same_anchors k same_k ws same_ws A shape words s))
+
 module _ (k : Shape) (ws : List ℕ) (leaves : List (LeafMap (List ℕ))) (keys : ℕ) (whole : IsLeafTable k ws leaves keys) where
-  module _ (leaf : ℕ) (l old : LeafMap (List ℕ)) (lt : leaf < length leaves) (was : old ≡ get_or leaves leaf old) where
+  module _ (leaf : ℕ) (l old : LeafMap (List ℕ)) (lt : leaf < length leaves) (was : old ≡ get_or leaves leaf old) (salt : l.salt ≡ old.salt) where
     was_map : old.map ≡ map_at leaves leaf
     was_map = ap (λ (x : LeafMap (List ℕ)). x.map) was ∙ map_read leaves leaf old lt
+
+    -- all leaves have the salt that they had
+    salts_after : HaveSalt (slice_set leaves leaf l) k.salt
+    salts_after = salt_written leaves k.salt leaf l whole.salts (salt ∙ (ap (λ (x : LeafMap (List ℕ)). x.salt) was ∙ salt_read leaves k.salt leaf old whole.salts lt))
 
     -- the same pairs
     same_maps : l.map ≡ old.map → (other : ℕ) → map_at (slice_set leaves leaf l) other ≡ map_at leaves other
@@ -72,42 +87,42 @@ module _ (k : Shape) (ws : List ℕ) (leaves : List (LeafMap (List ℕ))) (keys 
         (λ ne. map_unwritten leaves leaf l other ne)
 
     same_written_is : l.map ≡ old.map → AreTable k ws (slice_set leaves leaf l) keys (table_of k ws leaves)
-    same_written_is same = same_stands k ws leaves keys whole (slice_set leaves leaf l) (length-set leaves leaf l) (same_maps same)
+    same_written_is same = same_stands k ws leaves keys whole (slice_set leaves leaf l) (length-set leaves leaf l) salts_after (same_maps same)
 
     set_written_is : (key value : List ℕ) (now : ℕ) → leaf ≡ target (anchors_of k ws) key → l.map ≡ with old.map key value
         → (size_at (table_of k ws leaves) leaf < k.hard) ⊎ IsSome (find (table_of k ws leaves).map key)
         → now ≡ cond (is_some (find (table_of k ws leaves).map key)) keys (keys + 1)
         → AreTable k ws (slice_set leaves leaf l) now (record { shape = k; anchors = anchors_of k ws; map = with (table_of k ws leaves).map key value })
     set_written_is key value now at change room counted =
-        set_stands k ws leaves keys whole (slice_set leaves leaf l) (length-set leaves leaf l) leaf key at (map_unwritten leaves leaf l) value now
+        set_stands k ws leaves keys whole (slice_set leaves leaf l) (length-set leaves leaf l) salts_after leaf key at (map_unwritten leaves leaf l) value now
         (map_written leaves leaf l lt ∙ (change ∙ ap (λ (p : Pairs (List ℕ)). with p key value) was_map)) room counted
 
     remove_written_is : (key : List ℕ) (now : ℕ) → leaf ≡ target (anchors_of k ws) key → l.map ≡ without old.map key
         → now + cond (is_some (find (table_of k ws leaves).map key)) 1 0 ≡ keys
         → AreTable k ws (slice_set leaves leaf l) now (record { shape = k; anchors = anchors_of k ws; map = without (table_of k ws leaves).map key })
     remove_written_is key now at change counted =
-        remove_stands k ws leaves keys whole (slice_set leaves leaf l) (length-set leaves leaf l) leaf key at (map_unwritten leaves leaf l) now
+        remove_stands k ws leaves keys whole (slice_set leaves leaf l) (length-set leaves leaf l) salts_after leaf key at (map_unwritten leaves leaf l) now
         (map_written leaves leaf l lt ∙ (change ∙ ap (λ (p : Pairs (List ℕ)). without p key) was_map)) counted
 
     -- the leaf gave its upper half away, behind a parting anchor
     halved_is : (rows : List ℕ) (new : List (LeafMap (List ℕ))) (right : ℕ) (anchor : List ℕ) → l.map ≡ old.map → 2 ≤ length old.map → IsFreeLeaf k (anchors_of k ws) right
-        → anchor ≡ parting old.map → StandsFor k rows (with_split (anchors_of k ws) leaf anchor right) → length new ≡ length (slice_set leaves leaf l)
+        → anchor ≡ parting old.map → StandsFor k rows (with_split (anchors_of k ws) leaf anchor right) → length new ≡ length (slice_set leaves leaf l) → (HaveSalt (slice_set leaves leaf l) k.salt → HaveSalt new k.salt)
         → map_at new leaf ≡ take (stay_count (length (map_at (slice_set leaves leaf l) leaf))) (map_at (slice_set leaves leaf l) leaf)
         → map_at new right ≡ drop (stay_count (length (map_at (slice_set leaves leaf l) leaf))) (map_at (slice_set leaves leaf l) leaf)
         → ((other : ℕ) → other ≢ leaf → other ≢ right → map_at new other ≡ map_at (slice_set leaves leaf l) other)
         → IsLeafTable k rows new keys × IsSplit (table_of k ws leaves) (table_of k rows new) leaf
-    halved_is rows new right anchor same two free by stands count stay go others =
+    halved_is rows new right anchor same two free by stands count salts stay go others =
         let kept = same_written_is same in
         let here : map_at (slice_set leaves leaf l) leaf ≡ old.map = map_written leaves leaf l lt ∙ same in
-        let s = split_stands k ws (slice_set leaves leaf l) keys kept.whole new count rows leaf right others
+        let s = split_stands k ws (slice_set leaves leaf l) keys kept.whole new count (salts salts_after) rows leaf right others
         (subst (λ (p : Pairs (List ℕ)). 1 < length p) (sym here) (omega (arith, two))) free
         (subst (λ a. StandsFor k rows (with_split (anchors_of k ws) leaf a right)) (by ∙ ap parting (sym here)) stands) stay go in
         (s.0, subst (λ (u : Table). IsSplit u (table_of k rows new) leaf) kept.is s.1)
 
-  module _ (t : Table) (is : table_of k ws leaves ≡ t) (leaf : ℕ) (l old : LeafMap (List ℕ)) (lt : leaf < length leaves) (was : old ≡ get_or leaves leaf old) where
+  module _ (t : Table) (is : table_of k ws leaves ≡ t) (leaf : ℕ) (l old : LeafMap (List ℕ)) (lt : leaf < length leaves) (was : old ≡ get_or leaves leaf old) (salt : l.salt ≡ old.salt) where
     -- the leaf has the pairs that it had
     pub same_written : l.map ≡ old.map → AreTable k ws (slice_set leaves leaf l) keys t
-    same_written same = subst (λ (u : Table). AreTable k ws (slice_set leaves leaf l) keys u) is (same_written_is leaf l old lt was same)
+    same_written same = subst (λ (u : Table). AreTable k ws (slice_set leaves leaf l) keys u) is (same_written_is leaf l old lt was salt same)
 
     -- a key of the leaf has this value
     pub set_written : (key value : List ℕ) (now : ℕ) → leaf ≡ target t.anchors key → l.map ≡ with old.map key value
@@ -117,7 +132,7 @@ module _ (k : Shape) (ws : List ℕ) (leaves : List (LeafMap (List ℕ))) (keys 
     set_written key value now = subst (λ (u : Table). leaf ≡ target u.anchors key → l.map ≡ with old.map key value
         → (size_at u leaf < u.shape.hard) ⊎ IsSome (find u.map key)
         → now ≡ cond (is_some (find u.map key)) keys (keys + 1)
-        → AreTable k ws (slice_set leaves leaf l) now (record { shape = u.shape; anchors = u.anchors; map = with u.map key value })) is (set_written_is leaf l old lt was key value now)
+        → AreTable k ws (slice_set leaves leaf l) now (record { shape = u.shape; anchors = u.anchors; map = with u.map key value })) is (set_written_is leaf l old lt was salt key value now)
 
     -- a key of the leaf is gone
     pub remove_written : (key : List ℕ) (now : ℕ) → leaf ≡ target t.anchors key → l.map ≡ without old.map key
@@ -125,29 +140,29 @@ module _ (k : Shape) (ws : List ℕ) (leaves : List (LeafMap (List ℕ))) (keys 
         → AreTable k ws (slice_set leaves leaf l) now (record { shape = t.shape; anchors = t.anchors; map = without t.map key })
     remove_written key now = subst (λ (u : Table). leaf ≡ target u.anchors key → l.map ≡ without old.map key
         → now + cond (is_some (find u.map key)) 1 0 ≡ keys
-        → AreTable k ws (slice_set leaves leaf l) now (record { shape = u.shape; anchors = u.anchors; map = without u.map key })) is (remove_written_is leaf l old lt was key now)
+        → AreTable k ws (slice_set leaves leaf l) now (record { shape = u.shape; anchors = u.anchors; map = without u.map key })) is (remove_written_is leaf l old lt was salt key now)
 
     -- the leaf is halved
     pub halved : (same_k : Shape) (rows : List ℕ) (new : List (LeafMap (List ℕ))) (right : ℕ) (anchor : List ℕ) → same_k ≡ k → l.map ≡ old.map → 2 ≤ length old.map → IsFreeLeaf k (anchors_of k ws) right
-        → anchor ≡ parting old.map → StandsFor k rows (with_split (anchors_of k ws) leaf anchor right) → length new ≡ length (slice_set leaves leaf l)
+        → anchor ≡ parting old.map → StandsFor k rows (with_split (anchors_of k ws) leaf anchor right) → length new ≡ length (slice_set leaves leaf l) → (HaveSalt (slice_set leaves leaf l) k.salt → HaveSalt new k.salt)
         → map_at new leaf ≡ take (stay_count (length (map_at (slice_set leaves leaf l) leaf))) (map_at (slice_set leaves leaf l) leaf)
         → map_at new right ≡ drop (stay_count (length (map_at (slice_set leaves leaf l) leaf))) (map_at (slice_set leaves leaf l) leaf)
         → ((other : ℕ) → other ≢ leaf → other ≢ right → map_at new other ≡ map_at (slice_set leaves leaf l) other)
         → IsLeafTable same_k rows new keys × IsSplit t (table_of same_k rows new) leaf
-    halved same_k rows new right anchor e same two free by stands count stay go others =
-        let s = halved_is leaf l old lt was rows new right anchor same two free by stands count stay go others in
+    halved same_k rows new right anchor e same two free by stands count salts stay go others =
+        let s = halved_is leaf l old lt was salt rows new right anchor same two free by stands count salts stay go others in
         subst (λ (j : Shape). IsLeafTable j rows new keys × IsSplit t (table_of j rows new) leaf) (sym e) (s.0, subst (λ (u : Table). IsSplit u (table_of k rows new) leaf) is s.1)
 
     -- the parting anchor can stand behind the leaf's
     pub parts : (right : ℕ) (anchor : List ℕ) → 2 ≤ length old.map → IsFreeLeaf k (anchors_of k ws) right → anchor ≡ parting old.map → CanSplit k ws leaf anchor right
     parts right anchor two free by =
-        let here = was_map leaf l old lt was in
+        let here = was_map leaf l old lt was salt in
         subst (λ a. CanSplit k ws leaf a right) (ap parting (sym here) ∙ sym by) (can_split k ws leaves keys whole leaf right (subst (λ (p : Pairs (List ℕ)). 1 < length p) here (omega (arith, two))) free.dead)
 
     -- the items for the parting anchor are wanting
     pub lacks_items : (right : ℕ) (anchor : List ℕ) (why : TableFull) → IsFreeLeaf k (anchors_of k ws) right → anchor ≡ parting old.map → AreItemsFull k (anchors_of k ws) leaf anchor why → HasNoRoom t leaf why
     lacks_items right anchor why free by full =
-        let here : anchor ≡ parting (pairs_at (table_of k ws leaves) leaf) = by ∙ ap parting (was_map leaf l old lt was ∙ whole.spread.parts leaf) in
+        let here : anchor ≡ parting (pairs_at (table_of k ws leaves) leaf) = by ∙ ap parting (was_map leaf l old lt was salt ∙ whole.spread.parts leaf) in
         subst (λ (u : Table). HasNoRoom u leaf why) is (inr (right, free, subst (λ a. AreItemsFull k (anchors_of k ws) leaf a why) here full))
 
     -- a part is found in the leaf of its lower end
@@ -155,7 +170,7 @@ module _ (k : Shape) (ws : List ℕ) (leaves : List (LeafMap (List ℕ))) (keys 
     part_found from to upto less at end =
         let A = anchors_of k ws in
         let m = (table_of k ws leaves).map in
-        ap (λ (p : Pairs (List ℕ)). between p from upto) (was_map leaf l old lt was ∙ ap (λ i. map_at leaves i) at)
+        ap (λ (p : Pairs (List ℕ)). between p from upto) (was_map leaf l old lt was salt ∙ ap (λ i. map_at leaves i) at)
         ∙ (ap (λ b. between (map_at leaves (leaf_from A from)) from b) end
         ∙ (sym (part_pairs A whole.stands.anchors m (map_at leaves) whole.spread from to less)
         ∙ (ap (λ b. between m from b) (sym end) ∙ ap (λ (u : Table). between u.map from upto) is)))
@@ -163,7 +178,7 @@ module _ (k : Shape) (ws : List ℕ) (leaves : List (LeafMap (List ℕ))) (keys 
     pub part_few : (from upto : Bound) → length (between old.map from upto) ≤ t.shape.hard
     part_few from upto =
         let few = length_keep (is_in from upto) old.map in
-        let here : length old.map ≡ length (map_at leaves leaf) = ap (λ (p : Pairs (List ℕ)). length p) (was_map leaf l old lt was) in
+        let here : length old.map ≡ length (map_at leaves leaf) = ap (λ (p : Pairs (List ℕ)). length p) (was_map leaf l old lt was salt) in
         let all = whole.few leaf in
         subst (λ (u : Table). length (between old.map from upto) ≤ u.shape.hard) is (omega (arith, few, here, all))
 
@@ -212,19 +227,19 @@ module _ (k : Shape) (ws : List ℕ) (leaves : List (LeafMap (List ℕ))) (keys 
 
       -- the left one has the keys of both
       pub merged : (same_k : Shape) (rows : List ℕ) (new : List (LeafMap (List ℕ))) → same_k ≡ k → size_at t l + size_at t r ≤ t.shape.hard → StandsFor k rows (with_merge (anchors_of k ws) r)
-          → length new ≡ length leaves → map_at new l ≡ sorted (map_at leaves l ++ map_at leaves r) → map_at new r ≡ []
+          → length new ≡ length leaves → HaveSalt new k.salt → map_at new l ≡ sorted (map_at leaves l ++ map_at leaves r) → map_at new r ≡ []
           → ((other : ℕ) → other ≢ l → other ≢ r → map_at new other ≡ map_at leaves other)
           → IsLeafTable same_k rows new keys × IsMerged t (table_of same_k rows new) l r
-      merged same_k rows new e room stands count taken emptied others =
+      merged same_k rows new e room stands count salts taken emptied others =
           let few = subst (λ (u : Table). size_at u l + size_at u r ≤ u.shape.hard) (sym is) room in
           let left = leaf_size k ws leaves keys whole l in
           let right = leaf_size k ws leaves keys whole r in
-          let s = merge_stands k ws leaves keys whole new count rows l r others next_is (omega (arith, few, left, right)) stands taken emptied in
+          let s = merge_stands k ws leaves keys whole new count salts rows l r others next_is (omega (arith, few, left, right)) stands taken emptied in
           subst (λ (j : Shape). IsLeafTable j rows new keys × IsMerged t (table_of j rows new) l r) (sym e) (s.0, subst (λ (u : Table). IsMerged u (table_of k rows new) l r) is s.1)
 
     -- all leaves have the pairs that they had
-    pub unchanged : (new : List (LeafMap (List ℕ))) → length new ≡ length leaves → ((leaf : ℕ) → map_at new leaf ≡ map_at leaves leaf) → AreTable k ws new keys t
-    unchanged new count same = subst (λ (u : Table). AreTable k ws new keys u) is (same_stands k ws leaves keys whole new count same)
+    pub unchanged : (new : List (LeafMap (List ℕ))) → length new ≡ length leaves → HaveSalt new k.salt → ((leaf : ℕ) → map_at new leaf ≡ map_at leaves leaf) → AreTable k ws new keys t
+    unchanged new count salts same = subst (λ (u : Table). AreTable k ws new keys u) is (same_stands k ws leaves keys whole new count salts same)
 
   -- a key that is found is counted
   pub counted_some : (t : Table) → table_of k ws leaves ≡ t → (key : List ℕ) → is_some (find t.map key) ≡ true → 0 < keys

@@ -3,3 +3,4 @@ pub mod Changes
 pub mod Spread
 pub mod Leaves
 pub mod Facts
+pub mod Places

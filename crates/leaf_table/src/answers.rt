@@ -6,6 +6,15 @@ ghost use Rattle.leaf_table.specs.declared.answers.SplitFault.TheVariants.{Table
 use map_model::TableFull;
 use std::alloc::AllocError;
 
+/// Where a key belongs.
+#[derive(Debug, Clone, Copy, PartialEq, Eq)]
+pub struct Place {
+    /// The leaf that has the key, if any has.
+    pub leaf: u32,
+    /// The key's hash, under the table's salt.
+    pub hash: u64,
+}
+
 /// The leaves on both sides of one.
 #[derive(Debug, Clone, Copy, PartialEq, Eq)]
 pub struct Neighbours {

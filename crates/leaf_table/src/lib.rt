@@ -10,7 +10,8 @@ mod splits;
 mod table;
 #[cfg(test)]
 mod tests;
+mod values;
 mod writes;
 
-pub use answers::{Neighbours, SplitFault};
+pub use answers::{Neighbours, Place, SplitFault};
 pub use table::LeafTable;

@@ -1,32 +1,34 @@
 //! Looking for a key, and at the leaves.
 
 ghost use Rattle.std.specs.Prelude.{◌≡◌, ◌+◌, ◌-◌, ◌<◌, ℕ, Option, Some, None, MatchOption, true};
-ghost use Rattle.key_bytes.specs.declared.bound.Bound.{Bound};
+ghost use Rattle.key_bytes.specs.Fnv.{prefix_hash};
 ghost use Rattle.anchor_rules.specs.Anchors.{target, has_leaf};
 ghost use Rattle.map_model.specs.Maps as maps;
 ghost use Rattle.row_words.specs.VecRows.{shape_of, words_of};
 ghost use Rattle.meta_trie.specs.Stands.{StandsFor, anchors_of};
-ghost use Rattle.prefix_search.specs.Search.{IsLocated};
 ghost use Rattle.leaf_table.specs.Facts.{AreBeside};
+ghost use Rattle.leaf_table.specs.Places.{IsPlace};
 ghost use Rattle.leaf_table.specs.Table.{size_at};
 
-use crate::{LeafTable, Neighbours};
+use crate::{LeafTable, Neighbours, Place};
 use key_bytes::Key;
-use prefix_search::{Located, locate};
+use prefix_search::{Hint, seek};
 use row_words::{Rows, VecRows};
 use std::marker::Brand;
 use std::sync::ledger::{Blank, Ledger};
 use steps::Steps;
 
 impl LeafTable {
-    /// The leaf that has the key, if any has. It takes a look for each binary digit of the key's
-    /// length or of that of the longest anchor, whichever is less.
-    pub fn leaf_of(&mut self, key: &Key) -> u32
-        ensures target { result ≡ target self.old.anchors key.now }
-        ensures live { has_leaf self.old.anchors result ≡ true }
+    /// Where the key belongs. It takes at most a look for each binary digit of the key's length or of
+    /// that of the longest anchor, whichever is less: fewer where the last keys ended at about the same
+    /// length. The place serves until the next split or merge.
+    #[inline]
+    pub fn place_of(&mut self, key: &Key) -> Place
+        ensures place { IsPlace self.old key.now result }
+        ensures live { has_leaf self.old.anchors result.leaf ≡ true }
         ensures same { self.new ≡ self.old }
     {
-        locate_key::<Brand>(&mut self.rows, key, Blank::new(1)).leaf
+        seek_key::<Brand>(&mut self.rows, key, &mut self.hint, Blank::new(1))
     }
 
     /// How many keys a leaf has.
@@ -37,12 +39,13 @@ impl LeafTable {
         self.leaves[leaf as usize].len()
     }
 
-    /// The value of a key, whose leaf this is.
-    pub fn find(&self, leaf: u32, key: &Key) -> Option<&[u8]>
-        requires { leaf ≡ target self.now.anchors key.now }
+    /// The value of a key, whose place this is.
+    #[inline]
+    pub fn find(&self, place: Place, key: &Key) -> Option<&[u8]>
+        requires { IsPlace self.now key.now place }
         ensures { MatchOption result (maps.find self.now.map key.now ≡ None) (λ value. maps.find self.now.map key.now ≡ Some value.now) }
     {
-        match self.leaves[leaf as usize].find(key) {
+        match self.leaves[place.leaf as usize].find_hashed(place.hash, key) {
             Some(value) => Some(value.get()),
             None => None,
         }
@@ -58,18 +61,24 @@ impl LeafTable {
     }
 }
 
-// The leaf of a key, with a counter for the steps of the search.
-fn locate_key<L: Ledger>(rows: &mut VecRows, key: &Key, blank: Blank) -> Located
+// The place of a key, with a counter for the steps of the search.
+#[inline]
+fn seek_key<L: Ledger>(rows: &mut VecRows, key: &Key, hint: &mut Hint, blank: Blank) -> Place
     requires name { blank.name ≡ L.name }
     requires parts { blank.parts ≡ L.parts }
     requires some { 0 < blank.parts }
     requires stands { StandsFor (shape_of rows.old) (words_of rows.old) (anchors_of (shape_of rows.old) (words_of rows.old)) }
-    ensures located { IsLocated (anchors_of (shape_of rows.old) (words_of rows.old)) key.now result }
+    ensures leaf { result.leaf ≡ target (anchors_of (shape_of rows.old) (words_of rows.old)) key.now }
+    ensures hash { result.hash ≡ prefix_hash (shape_of rows.old).salt key.now }
     ensures words { words_of rows.new ≡ words_of rows.old }
     ensures shape { shape_of rows.new ≡ shape_of rows.old }
 {
     let mut steps = Steps::<L>::new(blank);
-    locate(rows, key, &mut steps)
+    let sought = seek(rows, key, hint, &mut steps);
+    Place {
+        leaf: sought.leaf,
+        hash: sought.hash,
+    }
 }
 
 // The leaves that a leaf's row names.

@@ -4,11 +4,11 @@ ghost use Rattle.std.specs.Prelude.{ℕ, ◌≡◌, ◌≢◌, ◌+◌, ◌<◌,
 ghost use Rattle.anchor_rules.specs.Anchors.{adjacent};
 ghost use Rattle.map_model.specs.Maps.{find, sorted};
 ghost use Rattle.leaf_table.specs.Changes.{IsMerged};
-ghost use Rattle.leaf_table.specs.Leaves.{map_at};
+ghost use Rattle.leaf_table.specs.Leaves.{map_at, HaveSalt};
 ghost use Rattle.leaf_table.specs.Table.{size_at};
 
 use crate::LeafTable;
-use key_bytes::Bytes;
+use crate::values::Value;
 use leaf_store::Leaf;
 use meta_trie::remove_anchor;
 use row_words::Rows;
@@ -27,16 +27,17 @@ impl LeafTable {
         let empty = Leaf::new(self.alloc, self.rows.salt());
         join(&mut self.leaves, left as usize, right as usize, empty)?;
         remove_anchor(&mut self.rows, right);
+        self.full_below = self.full_below.min(right);
         Ok(())
     }
 }
 
 // Moves the pairs of a leaf to another one, and puts an empty leaf in its place.
 fn join(
-    leaves: &mut Vec<Leaf<Bytes>>,
+    leaves: &mut Vec<Leaf<Value>>,
     left: usize,
     right: usize,
-    empty: Leaf<Bytes>,
+    empty: Leaf<Value>,
 ) -> Result<(), AllocError>
     requires left { left < length leaves.old.items }
     requires right { right < length leaves.old.items }
@@ -48,6 +49,7 @@ fn join(
     ensures others { (other : ℕ) → other ≢ left → other ≢ right → map_at leaves.new.items other ≡ map_at leaves.old.items other }
     ensures refused { OnErr result ((leaf : ℕ) → map_at leaves.new.items leaf ≡ map_at leaves.old.items leaf) }
     ensures count { length leaves.new.items ≡ length leaves.old.items }
+    ensures salts { (salt : ℕ) → HaveSalt leaves.old.items salt → empty.salt ≡ salt → HaveSalt leaves.new.items salt }
 {
     let mut taken = mem::replace(&mut leaves[right], empty);
     match leaves[left].absorb(&mut taken) {

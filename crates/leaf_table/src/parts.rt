@@ -12,7 +12,8 @@ ghost use Rattle.leaf_table.specs.Facts.{leaf_from, lesser, part_end};
 ghost use Rattle.leaf_table.specs.Spread.{end_bound};
 
 use crate::LeafTable;
-use key_bytes::{Bound, Bytes, Key};
+use crate::values::Value;
+use key_bytes::{Bound, Key};
 use leaf_store::Leaf;
 use map_model::Page;
 use prefix_search::{Located, at_leaf, locate};
@@ -90,7 +91,7 @@ fn lower_end(alloc: Global, next: Option<AnchorWords>, to: &Bound) -> Result<Bou
 
 // Puts the pairs of a leaf between two ends into an empty page, or leaves it empty.
 fn fill(
-    leaf: &mut Leaf<Bytes>,
+    leaf: &mut Leaf<Value>,
     from: &Bound,
     upto: &Bound,
     page: &mut Page,
@@ -99,6 +100,7 @@ fn fill(
     ensures ok { OnOk result (page.new.pairs ≡ between leaf.old.map from.now upto.now) }
     ensures cleared { OnErr result (page.new.pairs ≡ []) }
     ensures map { leaf.new.map ≡ leaf.old.map }
+    ensures salt { leaf.new.salt ≡ leaf.old.salt }
 {
     let (start, end) = leaf.pairs_between(from, upto)?;
     push_pairs(leaf, start, end, page)
@@ -106,7 +108,7 @@ fn fill(
 
 // Puts the pairs of a leaf from one place up to another into an empty page, or leaves it empty.
 fn push_pairs(
-    leaf: &Leaf<Bytes>,
+    leaf: &Leaf<Value>,
     start: usize,
     end: usize,
     page: &mut Page,

@@ -4,13 +4,14 @@ ghost use Rattle.std.specs.Prelude.{ℕ, ◌≡◌, ◌≢◌, ◌-◌, ◌<◌,
 ghost use Rattle.anchor_rules.specs.Anchors.{has_leaf};
 ghost use Rattle.leaf_table.specs.Changes.{IsSplit, parting, stay_count};
 ghost use Rattle.leaf_table.specs.Facts.{IsSplitFault};
-ghost use Rattle.leaf_table.specs.Leaves.{map_at};
+ghost use Rattle.leaf_table.specs.Leaves.{map_at, HaveSalt};
 ghost use Rattle.leaf_table.specs.Table.{size_at};
 
+use crate::values::Value;
 use crate::{LeafTable, SplitFault};
-use key_bytes::{Bound, Bytes, Key, separator};
+use key_bytes::{Bound, Key, separator};
 use leaf_store::Leaf;
-use meta_trie::{add_anchor, free_leaf};
+use meta_trie::{add_anchor, free_leaf_from};
 use row_words::Rows;
 use std::alloc::{AllocError, Global};
 
@@ -20,12 +21,13 @@ struct Parting {
     // The anchor of the new leaf.
     anchor: Key,
     // An empty leaf with room for the keys that go.
-    room: Leaf<Bytes>,
+    room: Leaf<Value>,
 }
 
 impl LeafTable {
     /// Splits a leaf: its upper half goes to the least leaf that isn't live. Of an odd number of
-    /// keys the greater half stays.
+    /// keys the greater half stays. It reads one word of each leaf's row up to that leaf, beginning
+    /// behind the one that the split before took, or at a lesser one that was merged away since.
     pub fn split(&mut self, leaf: u32) -> Result<(), SplitFault>
         requires live { has_leaf self.old.anchors leaf ≡ true }
         requires two { 2 ≤ size_at self.old leaf }
@@ -33,7 +35,7 @@ impl LeafTable {
         ensures fault { IfErr result (IsSplitFault self.old leaf) }
         ensures refused { OnErr result (self.new ≡ self.old) }
     {
-        let right = free_leaf(&mut self.rows)?;
+        let right = free_leaf_from(&mut self.rows, self.full_below)?;
         let salt = self.rows.salt();
         let parting = part_of(self.alloc, &mut self.leaves[leaf as usize], salt)?;
         add_anchor(&mut self.rows, leaf, &parting.anchor, right)?;
@@ -43,16 +45,20 @@ impl LeafTable {
             right as usize,
             parting.room,
         );
+        // The new leaf was the least that wasn't live.
+        self.full_below = right + 1;
         Ok(())
     }
 }
 
 // The anchor that parts the halves of a leaf, and room for the upper one.
-fn part_of(alloc: Global, leaf: &mut Leaf<Bytes>, salt: u64) -> Result<Parting, AllocError>
+fn part_of(alloc: Global, leaf: &mut Leaf<Value>, salt: u64) -> Result<Parting, AllocError>
     requires { 2 ≤ length leaf.old.map }
     ensures map { leaf.new.map ≡ leaf.old.map }
+    ensures salt { leaf.new.salt ≡ leaf.old.salt }
     ensures anchor { IfOk result (λ p. p.anchor ≡ parting leaf.old.map) }
     ensures empty { IfOk result (λ p. p.room.map ≡ []) }
+    ensures salted { IfOk result (λ p. p.room.salt ≡ salt) }
     ensures room { IfOk result (λ p. length leaf.old.map - stay_count (length leaf.old.map) ≤ p.room.spare) }
 {
     leaf.pairs_between(&Bound::Low, &Bound::High)?;
@@ -65,7 +71,7 @@ fn part_of(alloc: Global, leaf: &mut Leaf<Bytes>, salt: u64) -> Result<Parting, 
 }
 
 // Moves the upper half of a leaf into an empty one with room for it, which takes its place.
-fn halve(leaves: &mut Vec<Leaf<Bytes>>, left: usize, right: usize, room: Leaf<Bytes>)
+fn halve(leaves: &mut Vec<Leaf<Value>>, left: usize, right: usize, room: Leaf<Value>)
     requires left { left < length leaves.old.items }
     requires right { right < length leaves.old.items }
     requires apart { left ≢ right }
@@ -75,6 +81,7 @@ fn halve(leaves: &mut Vec<Leaf<Bytes>>, left: usize, right: usize, room: Leaf<By
     ensures go { map_at leaves.new.items right ≡ drop (stay_count (length (map_at leaves.old.items left))) (map_at leaves.old.items left) }
     ensures others { (other : ℕ) → other ≢ left → other ≢ right → map_at leaves.new.items other ≡ map_at leaves.old.items other }
     ensures count { length leaves.new.items ≡ length leaves.old.items }
+    ensures salts { (salt : ℕ) → HaveSalt leaves.old.items salt → room.salt ≡ salt → HaveSalt leaves.new.items salt }
 {
     let mut upper = room;
     match leaves[left].split_off(&mut upper) {

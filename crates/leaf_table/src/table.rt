@@ -5,12 +5,13 @@ ghost use Rattle.leaf_store.specs.Leaf.{LeafMap};
 ghost use Rattle.row_words.specs.VecRows.{shape_of, words_of};
 ghost use Rattle.row_words.specs.Shape.{IsShape};
 ghost use Rattle.meta_trie.specs.Stands.{StandsFor};
-ghost use Rattle.leaf_table.specs.Leaves.{map_at};
+ghost use Rattle.leaf_table.specs.Leaves.{map_at, HaveSalt};
 ghost use Rattle.leaf_table.specs.Facts.{IsWhole, IsMakeFault};
 
-use key_bytes::Bytes;
+use crate::values::Value;
 use leaf_store::Leaf;
-use meta_trie::start;
+use meta_trie::start_zeroed;
+use prefix_search::Hint;
 use row_words::{MakeFault, RowsMut, Shape, VecRows};
 use std::alloc::{AllocError, Global};
 use std::marker::Model;
@@ -18,33 +19,38 @@ use std::marker::Model;
 /// Keys with their values in leaves, and the rows of a table of anchors through which the leaf of a
 /// key is found.
 ///
-/// A call that names a leaf reads no row. No call but a split, a merge and a part takes memory, save
-/// for a key and a value that are stored.
+/// A call that names a leaf or a place reads no row. No call but a split, a merge and a part takes
+/// memory, save for a key and a value that are stored.
 #[derive(Drop)]
 pub struct LeafTable {
     pub(crate) alloc: Global,
     pub(crate) rows: VecRows,
     /// A leaf for each number that the shape has, live or not.
-    pub(crate) leaves: Vec<Leaf<Bytes>>,
+    pub(crate) leaves: Vec<Leaf<Value>>,
     /// How many keys the leaves have.
     pub(crate) keys: u64,
+    /// All leaves below this number are live, so a split looks for a free one from here on.
+    pub(crate) full_below: u32,
+    /// How long the prefixes are that searches found.
+    pub(crate) hint: Hint,
 }
 
 impl Model for LeafTable {
     ghost use Rattle.row_words.specs.VecRows.{shape_of, words_of};
+    ghost use Rattle.meta_trie.specs.Stands.{anchors_of};
     ghost use Rattle.leaf_table.specs.Table.{Table};
-    ghost use Rattle.leaf_table.specs.Leaves.{table_of, IsLeafTable};
+    ghost use Rattle.leaf_table.specs.Leaves.{table_of, IsLeafTable, AreLive};
 
     ghost Value = { Table };
 
     ghost view = { λ t. table_of (shape_of t.rows) (words_of t.rows) t.leaves.items };
 
-    ghost invariant = { λ t. IsLeafTable (shape_of t.rows) (words_of t.rows) t.leaves.items t.keys };
+    ghost invariant = { λ t. IsLeafTable (shape_of t.rows) (words_of t.rows) t.leaves.items t.keys × AreLive (anchors_of (shape_of t.rows) (words_of t.rows)) t.full_below };
 }
 
 impl LeafTable {
     /// A table with no key, whose one leaf is leaf 0. It takes the memory of the shape's rows, eight
-    /// bytes for each word, and of an empty leaf for each leaf that there may be.
+    /// bytes for each word, of which it writes few, and of an empty leaf for each leaf that there may be.
     pub fn make(alloc: Global, shape: &Shape) -> Result<LeafTable, MakeFault>
         ensures ok { IfOk result (λ table. table ≡ record { shape = shape.now; anchors = ([], 0) ∷ []; map = [] }) }
         ensures fault { IfErr result (IsMakeFault shape.now) }
@@ -58,6 +64,8 @@ impl LeafTable {
                 rows,
                 leaves,
                 keys: 0,
+                full_below: 0,
+                hint: Hint::new(),
             }),
             _ => Err(MakeFault::NoMemory),
         }
@@ -86,14 +94,15 @@ fn make_rows(alloc: Global, shape: &Shape) -> Result<VecRows, AllocError>
     ensures stands { IfOk result (λ rows. StandsFor shape.now (words_of rows) (([], 0) ∷ [])) }
 {
     let mut rows = VecRows::new(alloc, shape)?;
-    start(&mut rows);
+    start_zeroed(&mut rows);
     Ok(rows)
 }
 
 // An empty leaf for each number.
-fn make_leaves(alloc: Global, shape: &Shape) -> Result<Vec<Leaf<Bytes>>, AllocError>
+fn make_leaves(alloc: Global, shape: &Shape) -> Result<Vec<Leaf<Value>>, AllocError>
     ensures count { IfOk result (λ leaves. length leaves.items ≡ shape.now.leaves) }
     ensures empty { IfOk result (λ leaves. (leaf : ℕ) → map_at leaves.items leaf ≡ []) }
+    ensures salts { IfOk result (λ leaves. HaveSalt leaves.items shape.now.salt) }
 {
     let mut leaves = Vec::with_capacity(alloc, shape.leaves as usize)?;
     for _ in 0..shape.leaves {
