@@ -4,13 +4,14 @@ ghost use Rattle.std.specs.Prelude.{◌≡◌, ◌<◌, ◌⊎◌, true, IsSome,
 ghost use Rattle.anchor_rules.specs.Anchors.{has_leaf};
 ghost use Rattle.map_model.specs.Maps.{find};
 ghost use Rattle.leaf_table.specs.Facts.{IsWhole};
+ghost use Rattle.leaf_table.specs.Places.{IsPlace};
 ghost use Rattle.leaf_table.specs.Table.{size_at};
-ghost use Rattle.solo_index.specs.Tending.{leaf_of, Opens, IsPut, IsTaken};
+ghost use Rattle.solo_index.specs.Tending.{Opens, IsPut, IsTaken};
 ghost use Rattle.solo_index.specs.Causes.{RefusesPut, LeavesCrowded};
 
 use crate::tending::{Put, Taken, tend_large, tend_small};
 use key_bytes::Key;
-use leaf_table::{LeafTable, SplitFault};
+use leaf_table::{LeafTable, Place, SplitFault};
 use map_model::{Full, Refusal};
 
 /// Sets the value of a key, and tends its leaf.
@@ -26,27 +27,28 @@ pub(crate) fn put_key(table: &mut LeafTable, key: &Key, value: &[u8]) -> Result<
             cap: values,
         }));
     }
-    let leaf = open_leaf(table, key)?;
-    let new = table.set(leaf, key, value)?;
-    let tended = tend_large(table, leaf);
+    let place = open_leaf(table, key)?;
+    let new = table.set(place, key, value)?;
+    let tended = tend_large(table, place.leaf);
     Ok(Put { new, tended })
 }
 
-// The leaf of a key, with room for the key: a crowded one is split first.
-fn open_leaf(table: &mut LeafTable, key: &Key) -> Result<u32, Refusal>
+// The place of a key, in a leaf with room for the key: a crowded one is split first.
+#[inline]
+fn open_leaf(table: &mut LeafTable, key: &Key) -> Result<Place, Refusal>
     ensures opens { OnOk result (Opens table.old table.new key.now) }
-    ensures leaf { IfOk result (λ leaf. leaf ≡ leaf_of table.new key.now) }
-    ensures live { IfOk result (λ leaf. has_leaf table.new.anchors leaf ≡ true) }
-    ensures room { IfOk result (λ leaf. (size_at table.new leaf < table.new.shape.hard) ⊎ IsSome (find table.new.map key.now)) }
+    ensures place { IfOk result (λ place. IsPlace table.new key.now place) }
+    ensures live { IfOk result (λ place. has_leaf table.new.anchors place.leaf ≡ true) }
+    ensures room { IfOk result (λ place. (size_at table.new place.leaf < table.new.shape.hard) ⊎ IsSome (find table.new.map key.now)) }
     ensures refused { IfErr result (LeavesCrowded table.old table.new key.now) }
 {
     let hard = table.shape().hard;
-    let leaf = table.leaf_of(key);
-    if table.size(leaf) < hard as usize || table.find(leaf, key).is_some() {
-        return Ok(leaf);
+    let place = table.place_of(key);
+    if table.size(place.leaf) < hard as usize || table.find(place, key).is_some() {
+        return Ok(place);
     }
-    match table.split(leaf) {
-        Ok(()) => Ok(table.leaf_of(key)),
+    match table.split(place.leaf) {
+        Ok(()) => Ok(table.place_of(key)),
         Err(SplitFault::Table(why)) => Err(Refusal::Full(Full::Crowded {
             count: hard,
             hard,
@@ -62,8 +64,8 @@ pub(crate) fn take_key(table: &mut LeafTable, key: &Key) -> Taken
     ensures whole { IsWhole table.old }
 {
     let _ = table.shape();
-    let leaf = table.leaf_of(key);
-    let gone = table.remove(leaf, key);
-    let tended = tend_small(table, leaf);
+    let place = table.place_of(key);
+    let gone = table.remove(place, key);
+    let tended = tend_small(table, place.leaf);
     Taken { gone, tended }
 }

@@ -80,8 +80,8 @@ impl Solo {
         ensures same { self.new ≡ self.old }
     {
         out.clear();
-        let leaf = self.table.leaf_of(key);
-        match self.table.find(leaf, key) {
+        let place = self.table.place_of(key);
+        match self.table.find(place, key) {
             Some(value) => {
                 out.extend_from_slice(value)?;
                 Ok(true)

@@ -4,5 +4,5 @@ use Rattle.solo_index.proofs.Opening.{room_after}
 use Rattle.solo_index.proofs.keys.open_leaf.Goals as goal
 
 pub returns-in-Ok-clause-room : goal.returns-in-Ok-clause-room
-returns-in-Ok-clause-room c = inl (room_after c.args.table.now c.leaf_of-leaf.new.self c.split.new.self c.leaf_of.new.self c.args.key.now c.leaf_of-leaf.result c.size.result c.leaf_of.result
-    c.shape-hard.ensures.whole c.leaf_of-leaf.ensures.same c.leaf_of-leaf.ensures.target c.size.ensures (omega (arith, ap (λ (k : Shape). k.hard) c.shape-hard.ensures.shape)) c.in-Ok.ensures.ok c.leaf_of.ensures.same c.leaf_of.ensures.target)
+returns-in-Ok-clause-room c = inl (room_after c.args.table.now c.place_of-place.new.self c.split.new.self c.place_of.new.self c.args.key.now c.place_of-place.result.leaf c.size.result c.place_of.result.leaf
+    c.shape-hard.ensures.whole c.place_of-place.ensures.same c.place_of-place.ensures.place.leaf c.size.ensures (omega (arith, ap (λ (k : Shape). k.hard) c.shape-hard.ensures.shape)) c.in-Ok.ensures.ok c.place_of.ensures.same c.place_of.ensures.place.leaf)
