@@ -1,15 +1,16 @@
 -- The definitions against those of `percent_encoding`.
-use Rattle.std.proofs.Common.{◌≡◌, ℕ, ◌+◌, ◌*◌, ◌/◌, ◌%◌, ◌<◌, true, cond, eqb, ltb, not, ◌&&◌, List, [], ◌∷◌, ◌++◌, length, suc, All, refl, sym, ap, ◌∙◌, arith, ⊎_elim}
+use Rattle.std.proofs.Common.{◌≡◌, ℕ, ◌+◌, ◌*◌, ◌/◌, ◌%◌, ◌<◌, Bool, true, false, cond, eqb, ltb, not, ◌&&◌, List, [], ◌∷◌, ◌++◌, All, refl, sym, ap, ◌∙◌, arith, ⊎_elim}
+use Rattle.std.specs.List.{list_all, list_any}
 use Rattle.std.specs.Char.{digit_value, is_digit}
 use Rattle.std.specs.Fmt.{digit_glyph}
-use Rattle.std.proofs.lemmas.Bool.{cond-true, cond-false, cond_both, ltb-true, and_left, and_parts, false_from_ne_true, agree_below_at, cases_Bool}
+use Rattle.std.proofs.lemmas.Bool.{cond-true, cond-false, cond_both, ltb-true, and_left, and_parts, or_parts, agree_below_at, cases_Bool}
 use Rattle.std.proofs.lemmas.Bool.Decides.{nat_tests}
+use Rattle.std.proofs.lemmas.List.Recursion.{and_push}
 use Rattle.std.proofs.lemmas.List.Elements.{All-nil, All-cons, All-head, All-tail, All-append}
 use Rattle.percent_encoding.specs.declared.ascii_set.AsciiSet.{AsciiSet}
 use Rattle.percent_encoding.specs.AsciiSet.{should_percent_encode}
 use Rattle.percent_encoding.specs.Percent.{percent_decode, percent_encode, percent_encode_byte}
 use Rattle.percent_encoding.proofs.PercentLemmas.{percent_encode-nil, percent_encode_escaped, percent_encode_kept, round_trip, IsByte}
-use Rattle.memchr.specs.Find.{Passes, is_byte, Nowhere}
 use Rattle.line_protocol.specs.Escape.{unescape, is_plain, escape_byte, escape, IsWordByte, is_upper_hex, IsEscaped}
 use Rattle.line_protocol.specs.Escape.IsEscaped.{Empty, Plain, Escape}
 
@@ -24,15 +25,15 @@ unescape_is (b ∷ high ∷ low ∷ more) =
     ∙ ap (λ zs. cond t ((16 * digit_value high + digit_value low) ∷ unescape more) (b ∷ zs)) (unescape_is (high ∷ low ∷ more))
 
 -- without `%` a word stands for itself
-pub unescape_none : (bytes : List ℕ) → Nowhere (Passes (is_byte 37) bytes) 0 (length bytes) → unescape bytes ≡ bytes
+pub unescape_none : (bytes : List ℕ) → list_any (λ b. eqb b 37) bytes ≡ false → unescape bytes ≡ bytes
 unescape_none [] none = refl
 unescape_none (b ∷ []) none = refl
 unescape_none (b ∷ c ∷ []) none = refl
 unescape_none (b ∷ high ∷ low ∷ more) none =
-    let here = false_from_ne_true (eqb b 37) (none 0 (omega arith) (omega arith)) in
-    let test = and_left (eqb b 37 && is_digit high 16) (is_digit low 16) (and_left (eqb b 37) (is_digit high 16) here) in
+    let parts = or_parts (eqb b 37) (list_any (λ b. eqb b 37) (high ∷ low ∷ more)) none in
+    let test = and_left (eqb b 37 && is_digit high 16) (is_digit low 16) (and_left (eqb b 37) (is_digit high 16) parts.0) in
     cond-false (eqb b 37 && is_digit high 16 && is_digit low 16) ((16 * digit_value high + digit_value low) ∷ unescape more) (b ∷ unescape (high ∷ low ∷ more)) test
-    ∙ ap (λ zs. b ∷ zs) (unescape_none (high ∷ low ∷ more) (λ k below within. none (suc k) (omega arith) (omega arith)))
+    ∙ ap (λ zs. b ∷ zs) (unescape_none (high ∷ low ∷ more) parts.1)
 
 -- the set of the bytes that are escaped
 abbrev pub cuts : AsciiSet
@@ -115,3 +116,16 @@ escape_form (b ∷ bytes) small =
     cond_both (is_plain b) (b ∷ []) (37 ∷ high ∷ low ∷ []) (λ w. IsEscaped (w ++ escape bytes))
     (λ plain. Plain b (escape bytes) plain rest)
     (λ _. Escape high low (escape bytes) (hex_glyph (b / 16) (omega arith)) (hex_glyph (b % 16) (omega arith)) rest)
+
+-- a running test of plain bytes goes on by one
+pub plain_push : (bytes : List ℕ) (b : ℕ) (all next : Bool) → all ≡ list_all is_plain bytes → next ≡ (all && is_plain b) → next ≡ list_all is_plain (bytes ++ b ∷ [])
+plain_push bytes b all next kept step =
+    step ∙ ap (λ t. t && is_plain b) kept ∙ sym (and_push (list_all is_plain) is_plain refl (λ x xs. refl) bytes b)
+
+-- plain bytes stand for themselves
+pub escape_plain : (bytes : List ℕ) → list_all is_plain bytes ≡ true → escape bytes ≡ bytes
+escape_plain [] plain = refl
+escape_plain (b ∷ bytes) plain =
+    let own = 37 ∷ digit_glyph true (b / 16) ∷ digit_glyph true (b % 16) ∷ [] in
+    let parts = and_parts (is_plain b) (list_all is_plain bytes) plain in
+    ap (λ w. w ++ escape bytes) (cond-true (is_plain b) (b ∷ []) own parts.0) ∙ ap (λ zs. b ∷ zs) (escape_plain bytes parts.1)

@@ -1,12 +1,13 @@
 -- How a line is cut at its spaces.
-use Rattle.std.proofs.Common.{◌≡◌, ℕ, ◌+◌, ◌<◌, ◌≤◌, Bool, true, false, cond, eqb, List, [], ◌∷◌, ◌++◌, length, take, drop, All, refl, sym, ap, ◌∙◌, subst, arith}
-use Rattle.std.specs.List.{onto_first}
-use Rattle.std.proofs.lemmas.Bool.{false_from_ne_true, eqb-true}
+use Rattle.std.proofs.Common.{◌≡◌, ℕ, ◌+◌, ◌<◌, ◌≤◌, Bool, true, false, cond, eqb, ◌||◌, List, [], ◌∷◌, ◌++◌, length, take, drop, All, refl, sym, ap, ◌∙◌, subst, arith, ⊎_elim}
+use Rattle.std.specs.List.{onto_first, list_any}
+use Rattle.std.proofs.lemmas.Bool.{false≢true, cond-true, cond-false, cases_Bool, or_parts, false_from_ne_true, eqb-true}
+use Rattle.std.proofs.lemmas.List.Recursion.{or_push}
 use Rattle.std.proofs.lemmas.List.{take-append-drop, drop_more, get_or-take, length-take-le}
-use Rattle.std.proofs.lemmas.List.Elements.{All-from_get_or}
+use Rattle.std.proofs.lemmas.List.Elements.{All-nil, All-cons, All-from_get_or}
 use Rattle.std.proofs.lemmas.List.Splits.{slice_split_none, slice_split_at}
 use Rattle.memchr.specs.Find.{Passes, is_byte, Nowhere}
-use Rattle.std.proofs.Common.{None, Err}
+use Rattle.std.proofs.Common.{None, Some, Err}
 use Rattle.line_protocol.specs.Words.{words_of, one}
 use Rattle.line_protocol.specs.Requests.{quit}
 use Rattle.line_protocol.specs.declared.fault.Fault.TheVariants.{Words}
@@ -18,6 +19,12 @@ IsSpace b = eqb b 32
 no_space : (bytes : List ℕ) (n : ℕ) → n ≤ length bytes → Nowhere (Passes (is_byte 32) bytes) 0 n → All (λ b. IsSpace b ≡ false) (take n bytes)
 no_space bytes n within none =
     All-from_get_or (λ b. IsSpace b ≡ false) (take n bytes) 0 (λ i below. let low : i < n = omega (arith, length-take-le n bytes) in subst (λ b. IsSpace b ≡ false) (sym (get_or-take n bytes i 0 low)) (false_from_ne_true _ (none i (omega arith) low)))
+
+All-from_list_any : (p : ℕ → Bool) (bytes : List ℕ) → list_any p bytes ≡ false → All (λ b. p b ≡ false) bytes
+All-from_list_any p [] none = All-nil (λ b. p b ≡ false)
+All-from_list_any p (b ∷ bytes) none =
+    let parts = or_parts (p b) (list_any p bytes) none in
+    All-cons (λ b. p b ≡ false) b bytes parts.0 (All-from_list_any p bytes parts.1)
 
 pub words_one : (bytes : List ℕ) → Nowhere (Passes (is_byte 32) bytes) 0 (length bytes) → words_of bytes ≡ bytes ∷ []
 words_one bytes none =
@@ -47,8 +54,36 @@ words_some (b ∷ bytes) =
       | false ↦ onto_some b (words_of bytes)
     ]
 
-pub one_more : (word : List ℕ) (words : List (List ℕ)) → IsSome words → one (word ∷ words) ≡ None
-one_more word words some = ap (λ ws. one (word ∷ ws)) some.whole
+-- there are two words
+pub record IsMany (words : List (List ℕ)) : Type 0 where
+  pub first : List ℕ
+  pub second : List ℕ
+  pub others : List (List ℕ)
+  pub whole : words ≡ first ∷ second ∷ others
+
+-- with a space there are two words
+words_many : (bytes : List ℕ) → list_any IsSpace bytes ≡ true → IsMany (words_of bytes)
+words_many [] any = absurd (false≢true any)
+words_many (b ∷ bytes) any =
+    ⊎_elim
+    (λ here.
+    let some = words_some bytes in
+    record { first = []; second = some.first; others = some.others; whole = cond-true (eqb b 32) ([] ∷ words_of bytes) (onto_first b (words_of bytes)) here ∙ ap (λ ws. [] ∷ ws) some.whole })
+    (λ other.
+    let many = words_many bytes (sym (ap (λ t. t || list_any IsSpace bytes) other) ∙ any) in
+    record { first = b ∷ many.first; second = many.second; others = many.others; whole = cond-false (eqb b 32) ([] ∷ words_of bytes) (onto_first b (words_of bytes)) other ∙ ap (onto_first b) many.whole })
+    (cases_Bool (eqb b 32))
+
+pub one_many : (bytes : List ℕ) → list_any IsSpace bytes ≡ true → one (words_of bytes) ≡ None
+one_many bytes any = ap one (words_many bytes any).whole
+
+pub one_whole : (bytes : List ℕ) → list_any IsSpace bytes ≡ false → one (words_of bytes) ≡ Some bytes
+one_whole bytes none = ap one (slice_split_none IsSpace bytes (All-from_list_any IsSpace bytes none))
+
+-- a running search for a byte goes on by one
+pub any_push : (wanted : ℕ) (bytes : List ℕ) (b : ℕ) (any next : Bool) → any ≡ list_any (λ b. eqb b wanted) bytes → next ≡ (any || eqb b wanted) → next ≡ list_any (λ b. eqb b wanted) (bytes ++ b ∷ [])
+any_push wanted bytes b any next kept step =
+    step ∙ ap (λ t. t || eqb b wanted) kept ∙ sym (or_push (list_any (λ b. eqb b wanted)) (λ b. eqb b wanted) refl (λ x xs. refl) bytes b)
 
 pub quit_more : (words : List (List ℕ)) → IsSome words → quit words ≡ Err (Fault Words)
 quit_more words some = ap quit some.whole

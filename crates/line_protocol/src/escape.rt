@@ -2,10 +2,11 @@
 //!
 //! They are those of percent-encoding (RFC 3986, section 2.1), with a set of the protocol's own.
 ghost use Rattle.std.specs.Prelude.{◌≡◌, ◌<◌, ◌≤◌, ◌++◌, take, length, IfOk, MatchOption, OnOk, OnErr};
+ghost use Rattle.std.specs.List.{list_all};
 ghost use Rattle.std.specs.Cow.{cow_slice_items};
-ghost use Rattle.line_protocol.specs.Escape.{escape, unescape as unescaped};
+ghost use Rattle.line_protocol.specs.Escape.{escape, is_plain, unescape as unescaped};
 
-use memchr::memchr;
+use crate::scan::has_byte;
 use percent_encoding::{AsciiSet, CONTROLS, ascii_set, percent_decode, percent_encode};
 use std::alloc::{AllocError, Global};
 use std::borrow::CowSlice;
@@ -20,13 +21,12 @@ pub(crate) fn unescape<'a>(
 ) -> Result<CowSlice<'a, u8, Global>, AllocError>
     ensures { IfOk result (λ bytes. cow_slice_items bytes ≡ unescaped word.now) }
 {
-    match memchr(b'%', word) {
-        None => Ok(CowSlice::Borrowed(word)),
-        Some(_) => {
-            let mut bytes = Vec::with_capacity(alloc, word.len())?;
-            percent_decode(word).append_to(&mut bytes)?;
-            Ok(CowSlice::Owned(bytes))
-        }
+    if has_byte(word, b'%') {
+        let mut bytes = Vec::with_capacity(alloc, word.len())?;
+        percent_decode(word).append_to(&mut bytes)?;
+        Ok(CowSlice::Owned(bytes))
+    } else {
+        Ok(CowSlice::Borrowed(word))
     }
 }
 
@@ -52,8 +52,26 @@ pub(crate) fn escape_into(out: &mut Vec<u8>, bytes: &[u8]) -> Result<(), AllocEr
     ensures ok { OnOk result (out.new.items ≡ out.old.items ++ escape bytes.now) }
     ensures err { OnErr result (take (length out.old.items) out.new.items ≡ out.old.items) }
 {
+    if are_plain(bytes) {
+        return out.extend_from_slice(bytes);
+    }
     for piece in percent_encode(bytes, CUTS) {
         out.extend_from_slice(piece.as_bytes())?;
     }
     Ok(())
+}
+
+/// Whether each of these bytes stands for itself. It reads all of them and does not stop at the
+/// first that does not, so that many are tested at once.
+fn are_plain(bytes: &[u8]) -> bool
+    ensures { result ≡ list_all is_plain bytes.now }
+{
+    bytes.iter().fold(true, |all, byte| all & is_plain(*byte))
+}
+
+/// Whether a byte stands for itself. It does not branch, for the sake of `are_plain`.
+fn is_plain(byte: u8) -> bool
+    ensures { result ≡ is_plain byte }
+{
+    (byte.wrapping_sub(0x21) < 0x5e) & (byte != b'%') & (byte != b'*')
 }

@@ -12,6 +12,7 @@ mod parts;
 mod read;
 mod reply_line;
 mod request;
+mod scan;
 #[cfg(test)]
 mod tests;
 mod words;

@@ -5,9 +5,9 @@ ghost use Rattle.line_protocol.specs.Parts.{Answers, as_key, key_of, value_of, e
 ghost use Rattle.line_protocol.specs.Requests.{IsEnd, IsValue};
 
 use crate::escape::{unescape, unescape_into};
+use crate::scan::has_byte;
 use crate::{Fault, RequestFault};
 use key_bytes::{Bound, Bytes, Key, KeyFault};
-use memchr::memchr;
 use std::alloc::Global;
 
 /// The key that a word stands for. Only the key itself takes memory.
@@ -15,9 +15,10 @@ pub(crate) fn read_key(alloc: Global, word: &[u8]) -> Result<Key, RequestFault>
     ensures answers { Answers result (key_of word.now) }
     ensures key { IfOk result IsKey }
 {
-    match memchr(b'%', word) {
-        None => copied_key(alloc, word),
-        Some(_) => escaped_key(alloc, word),
+    if has_byte(word, b'%') {
+        escaped_key(alloc, word)
+    } else {
+        copied_key(alloc, word)
     }
 }
 

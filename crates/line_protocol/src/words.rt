@@ -2,6 +2,7 @@
 ghost use Rattle.std.specs.Prelude.{◌≡◌, ◌∷◌, None, Some, MatchOption, option_copied};
 ghost use Rattle.line_protocol.specs.Words.{words_of, words_after, one, two, three};
 
+use crate::scan::has_byte;
 use memchr::memchr;
 
 /// The first word, and what stands behind the space after it.
@@ -21,10 +22,10 @@ pub(crate) fn one_word<'a>(rest: Option<&'a [u8]>) -> Option<&'a [u8]>
     match rest {
         None => None,
         Some(bytes) => {
-            let (word, rest) = first_word(bytes);
-            match rest {
-                None => Some(word),
-                Some(_) => None,
+            if has_byte(bytes, b' ') {
+                None
+            } else {
+                Some(bytes)
             }
         }
     }

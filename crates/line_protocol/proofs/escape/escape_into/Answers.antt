@@ -1,10 +1,10 @@
-use Rattle.std.proofs.Common.{◌≡◌, ◌++◌, ap, ◌∙◌, arith, rules}
+use Rattle.std.proofs.Common.{◌≡◌, ◌++◌, OnOk, sym, subst, ap, ◌∙◌, arith, rules}
 use Rattle.std.proofs.lemmas.List.{take_all}
 use Rattle.std.proofs.lemmas.List.Elements.{All-from_get_or}
 use Rattle.percent_encoding.specs.Iter.{encoded_text}
 use Rattle.percent_encoding.specs.Percent.{percent_encode}
 use Rattle.percent_encoding.proofs.PercentLemmas.{IsByte}
-use Rattle.line_protocol.proofs.Escapes.{cuts, escape_is}
+use Rattle.line_protocol.proofs.Escapes.{cuts, escape_is, escape_plain}
 use Rattle.line_protocol.proofs.escape.escape_into.Goals as goal
 
 pub loop-piece-init : goal.loop-piece-init
@@ -15,3 +15,10 @@ loop-piece-init c =
       text = ap (λ t. c.args.out.now.items ++ t) (begun ∙ escape_is c.args.bytes.now small);
       front = take_all _ c.args.out.now.items (omega arith);
     }
+
+pub returns-then-are_plain-clause-ok : goal.returns-then-are_plain-clause-ok
+returns-then-are_plain-clause-ok c =
+    let bytes = c.args.bytes.now in
+    let same = escape_plain bytes (sym c.are_plain.ensures ∙ c.if-are_plain.true) in
+    let added : OnOk c.extend_from_slice.result (c.extend_from_slice.new.self.items ≡ c.args.out.now.items ++ bytes) = search rules in
+    subst (λ zs. OnOk c.extend_from_slice.result (c.extend_from_slice.new.self.items ≡ c.args.out.now.items ++ zs)) (sym same) added
