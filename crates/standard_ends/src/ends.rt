@@ -1,44 +1,66 @@
 //! A source and a sink over std's readers and writers. No contract says which bytes the system gives and takes, so
-//! these tell nothing of bytes: they count their failures.
-ghost use Rattle.std.specs.Prelude.{◌≡◌, None};
+//! these tell a session nothing of bytes: they count their failures. Over a reader that tells its bytes, the source's
+//! own clause says that it gives them.
+ghost use Rattle.std.specs.Prelude.{◌≡◌, None, IfOk};
+ghost use Rattle.std.specs.Io.{ReadsAtMost};
+ghost use Rattle.std.specs.Io.KnownBytes.{ReadConsumes};
+ghost use Rattle.outside.specs.Causes.{FaultsCounted};
 
 use crate::outgoing::Outgoing;
 use counts::raise;
 use outside::{Sink, Source, Stop};
+use std::alloc::Global;
 use std::cell::RefCell;
-use std::io::{Read, Write};
+use std::io;
+use std::io::{BufReader, Read, Write};
 
-/// A source over a reader. Before each read it has the bytes handed on that wait for the writer, so that whoever
-/// answers them can. Each error of the reader is a fault; a failing writer is told by the next write.
+/// How many bytes are read at once.
+const AHEAD: usize = 65_536;
+
+/// A source over a reader, which is read ahead. Before the reader is asked, the bytes are handed on that wait for the
+/// writer, so that whoever answers them can. Each error of the reader is a fault; a failing writer is told by the
+/// next write.
 #[derive(Drop)]
 pub struct StdSource<'a, R, W> {
-    reader: R,
+    reader: BufReader<R>,
     outgoing: &'a RefCell<Outgoing<W>>,
     faults: u64,
 }
 
-impl<'a, R, W> StdSource<'a, R, W> {
-    ghost use Rattle.standard_ends.specs.Ends.{source_faults};
+impl<'a, R: Read + Drop, W> StdSource<'a, R, W> {
+    ghost use Rattle.standard_ends.specs.Ends.{source_faults, source_left};
 
-    pub fn new(reader: R, outgoing: &'a RefCell<Outgoing<W>>) -> StdSource<'a, R, W>
-        ensures { source_faults result ≡ 0 }
+    /// Takes memory for what is read ahead. Without it the reader is lost.
+    pub fn new(
+        alloc: Global,
+        reader: R,
+        outgoing: &'a RefCell<Outgoing<W>>,
+    ) -> io::Result<StdSource<'a, R, W>>
+        ensures faults { IfOk result (λ s. source_faults s ≡ 0) }
+        ensures left { IfOk result (λ s. source_left R.remaining s ≡ R.remaining reader) }
     {
-        StdSource {
-            reader,
+        Ok(StdSource {
+            reader: BufReader::with_capacity(alloc, AHEAD, reader)?,
             outgoing,
             faults: 0,
-        }
+        })
     }
 }
 
 impl<R: Read, W: Write> Source for StdSource<'_, R, W> {
-    ghost use Rattle.standard_ends.specs.Ends.{source_faults};
+    ghost use Rattle.standard_ends.specs.Ends.{source_faults, source_left};
 
     ghost told = { λ s. None };
 
     ghost faults = { λ s. source_faults s };
 
-    fn read(&mut self, buf: &mut [u8]) -> Result<usize, Stop> {
+    fn read(&mut self, buf: &mut [u8]) -> Result<usize, Stop>
+        ensures bound { ReadsAtMost result buf.new }
+        ensures cause { FaultsCounted (source_faults self.old) (source_faults self.new) result }
+
+        // Bytes come in order, each once.
+        ensures left { ReadConsumes (source_left R.remaining self.old) (source_left R.remaining self.new) result buf.new }
+    {
         if let Ok(mut outgoing) = self.outgoing.try_borrow_mut() {
             if let Ok(n) = outgoing.read_behind(&mut self.reader, buf) {
                 return Ok(n);

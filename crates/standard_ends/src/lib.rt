@@ -1,5 +1,5 @@
-//! Standard input and output with a buffer between the program and its output: what is written is collected, and
-//! handed on when the buffer is full, before each read, and at the end.
+//! Standard input and output with a buffer on each side of the program: input is read ahead; what is written is
+//! collected, and handed on when the buffer is full, before more input is asked for, and at the end.
 #![tactic(auto)]
 
 mod ends;

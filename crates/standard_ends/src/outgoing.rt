@@ -2,12 +2,13 @@
 ghost use Rattle.std.specs.Prelude.{◌≡◌, ◌<◌, ◌≤◌, ◌≢◌, ◌↔◌, [], false, length, take, IsTrue, IfOk, IfSome, IfNone, Err};
 ghost use Rattle.std.specs.Bool.{OnTrue, OnFalse};
 ghost use Rattle.std.specs.Io.{ReadsAtMost, WritesAtMost};
+ghost use Rattle.std.specs.Io.Buffered.{reader_buffer, reader_inner, reader_remaining};
 ghost use Rattle.std.specs.Io.KnownBytes.{Appends, Keeps, ReadConsumes, WriteAppends};
 
 use outside::Stop;
 use std::alloc::Global;
 use std::io;
-use std::io::{ErrorKind, Read, Write};
+use std::io::{BufRead, BufReader, ErrorKind, Read, Write};
 
 /// How many bytes are collected before they are handed on.
 const CAPACITY: usize = 65_536;
@@ -117,16 +118,30 @@ impl<W: Write> Outgoing<W> {
         true
     }
 
-    /// Hands on all that waits, so that whoever waits for it has it, and reads then.
-    pub fn read_behind<R: Read>(&mut self, reader: &mut R, buf: &mut [u8]) -> io::Result<usize>
+    /// Gives bytes that the reader has ahead. Where it has none, hands on all that waits, so that whoever waits for
+    /// it has it, and reads then.
+    pub fn read_behind<R: Read>(
+        &mut self,
+        reader: &mut BufReader<R>,
+        buf: &mut [u8],
+    ) -> io::Result<usize>
         ensures bound { ReadsAtMost result buf.new }
-        ensures bytes { ReadConsumes (R.remaining reader.old) (R.remaining reader.new) result buf.new }
+        ensures bytes { ReadConsumes (reader_remaining R.remaining reader.old) (reader_remaining R.remaining reader.new) result buf.new }
         ensures passed { Keeps (passed W.contents self.old) (passed W.contents self.new) }
-        ensures handed { OnFalse (is_broken self.new) (waiting self.new ≡ []) }
+        // What stands behind the buffer is asked for more only where nothing waits.
+        ensures ahead { 0 < length (reader_buffer reader.old) → reader_inner reader.new ≡ reader_inner reader.old }
+        ensures handed { length (reader_buffer reader.old) ≡ 0 → OnFalse (is_broken self.new) (waiting self.new ≡ []) }
     {
-        // A failure is told by the next write.
-        self.hand_on();
-        reader.read(buf)
+        let ahead = reader.buffer();
+        if ahead.is_empty() {
+            // A failure is told by the next write.
+            self.hand_on();
+            return reader.read(buf);
+        }
+        let n = ahead.len().min(buf.len());
+        buf[..n].copy_from_slice(&ahead[..n]);
+        reader.consume(n);
+        Ok(n)
     }
 
     /// Hands on all that waits, and gives the writer back, unless it failed.
