@@ -6,8 +6,7 @@ use Rattle.std.proofs.lemmas.List.{append-nil, map-append}
 use mathlib.Core.List.{IsPrefix}
 use Rattle.line_protocol.specs.Requests.{request}
 use Rattle.line_protocol.specs.Served.{served, quits}
-use Rattle.map_model.specs.Calls as calls
-use Rattle.map_model.specs.History.{Entry, after, entry_of, map_from, IsLegalFrom, IsLegal}
+use Rattle.map_model.specs.History.{Entry, after, map_from, IsLegalFrom, IsLegal}
 use Rattle.map_model.specs.declared.refusal.Refusal.{Refusal}
 use Rattle.map_model.specs.declared.refusal.Refusal.TheVariants as refusals
 use Rattle.map_model.specs.declared.refusal.Again.{Again as Cause}
@@ -21,11 +20,13 @@ use Rattle.session.specs.declared.session.SessionEnd.{SessionEnd}
 use Rattle.session.specs.declared.session.SessionEnd.TheVariants as ends
 use Rattle.session.proofs.Gaining.{begins_behind, begins_more, begins_then}
 use Rattle.session.proofs.PlainSessions.{served_quit, served_begins, written_by, plain_session}
-use Rattle.session.proofs.PlainTexts.{LacksRoom, piece_cases, start_behind, prefix_cases, lf_cases, plain_prefix}
+use Rattle.session.proofs.PlainTexts.{piece_cases, start_behind, prefix_cases, lf_cases, plain_prefix}
 use Rattle.sole_sessions.specs.PlainHistory.{plain_entries, history_from}
 use Rattle.sole_sessions.specs.Rooms.{IsNoLarger, HasRoomFor}
 use Rattle.sole_sessions.specs.SoleSessions.{SoleSession}
-use Rattle.sole_sessions.proofs.Likeness.{IsLike, like_push, like_piece, like_larger, larger_prefix}
+use Rattle.sole_sessions.proofs.Larger.{room_prefix}
+use Rattle.sole_sessions.proofs.KeepingUp.{KeepsUp, keeps_none, keeps_piece}
+use Rattle.sole_sessions.proofs.NeverFull.{no_lack, never_full}
 
 -- The text is a beginning of the plain one up to a line that tells of want of memory.
 record LacksMemory (text plain : List ℕ) : Type 0 where
@@ -45,20 +46,10 @@ only_memory (refusals.Full cause) not_again not_full = absurd (not_full tt)
 only_memory refusals.NoMemory not_again not_full = refl
 
 module _ (limit : Option ℕ) (lane : ℕ) (fits : List Entry → Type 0) where
-  -- where there is room, none is lacking
-  no_lack : (seen h : List Entry) (x : Exchange) (pieces : List Exchange) → IsLike seen h → ((g : List Entry) → IsNoLarger g (history_from h (asked_of (x ∷ pieces))) → fits g) → LacksRoom lane fits seen x.asked → ⊥
-  no_lack seen h x pieces like room lacks =
-      let key = lacks.0 in
-      let value = lacks.1 in
-      let call = calls.Put key value in
-      let e = entry_of lane seen call (calls.answer_of (after seen) call) in
-      let more = like_push seen h e call like refl refl in
-      lacks.3 refl (room (seen ++ e ∷ []) (like_larger (seen ++ e ∷ []) (h ++ plain_entries h x.asked) (asked_of pieces) (subst (λ asked. IsLike (seen ++ e ∷ []) (h ++ plain_entries h asked)) (sym lacks.2) more)))
-
-  text_complete : (pieces : List Exchange) (seen h : List Entry) → IsLike seen h → AreServed limit lane true fits seen pieces → IsLegalFrom (after seen) (entries_of pieces) → ((g : List Entry) → IsNoLarger g (history_from h (asked_of pieces)) → fits g)
+  text_complete : (pieces : List Exchange) (seen h : List Entry) → KeepsUp seen h → AreServed limit lane true fits seen pieces → IsLegalFrom (after seen) (entries_of pieces) → ((g : List Entry) → IsNoLarger g (history_from h (asked_of pieces)) → fits g)
       → (text_of pieces ≡ plain_from (after seen) (asked_of pieces)) ⊎ LacksMemory (text_of pieces) (plain_from (after seen) (asked_of pieces))
-  text_complete [] seen h like each legal room = inl refl
-  text_complete (x ∷ pieces) seen h like each legal room =
+  text_complete [] seen h up each legal room = inl refl
+  text_complete (x ∷ pieces) seen h up each legal room =
       let m = after seen in
       let parts = legal-parts m x.entries (entries_of pieces) legal in
       let behind : after (seen ++ x.entries) ≡ map_from m x.entries = map_from-append [] seen x.entries in
@@ -66,7 +57,7 @@ module _ (limit : Option ℕ) (lane : ℕ) (fits : List Entry → Type 0) where
       elim (piece_cases limit lane fits m (ascending_history seen) seen x parts.0 x.asked each.0) [
         | inl is ↦
             let next : after (seen ++ x.entries) ≡ plain_map m x.asked = behind ∙ is.after in
-            let rest = text_complete pieces (seen ++ x.entries) (h ++ plain_entries h x.asked) (like_piece limit lane fits seen h x like parts.0 x.asked each.0 is) each.1 (subst (λ k. IsLegalFrom k (entries_of pieces)) (sym behind) parts.1) room in
+            let rest = text_complete pieces (seen ++ x.entries) (h ++ plain_entries h x.asked) (keeps_piece limit lane true fits seen h x up parts.0 x.asked each.0) each.1 (subst (λ k. IsLegalFrom k (entries_of pieces)) (sym behind) parts.1) room in
             elim rest [
               | inl same ↦ inl (ap (λ w. w ++ text_of pieces) is.text ∙ ap (λ w. plain_answer m x.asked ++ w) (same ∙ ap (λ k. plain_from k (asked_of pieces)) next))
               | inr lacks ↦ inr (record {
@@ -78,7 +69,7 @@ module _ (limit : Option ℕ) (lane : ℕ) (fits : List Entry → Type 0) where
               })
             ]
         | inr is ↦
-            let none : is.refusal ≡ refusals.NoMemory = only_memory is.refusal is.untold (λ full. no_lack seen h x pieces like room (is.full full)) in inr (record {
+            let none : is.refusal ≡ refusals.NoMemory = only_memory is.refusal is.untold (λ full. no_lack lane fits seen h x pieces up room (is.full full)) in inr (record {
               lead = is.lead;
               rest = text_of pieces;
               is = ap (λ w. w ++ text_of pieces) (is.text ∙ ap (λ r. is.lead ++ refusal_line r) none) ∙ append_assoc is.lead (refusal_line refusals.NoMemory) (text_of pieces);
@@ -124,21 +115,13 @@ then_plain f (inr l) = inr l
 transcript_complete : (limit : Option ℕ) (lane : ℕ) (fits : List Entry → Type 0) (lines : List (List ℕ)) (entries : List Entry) (output : List ℕ) → IsTranscript limit lane true fits [] lines entries output → IsLegal entries → HasRoomFor fits lines
     → (output ≡ plain_text lines) ⊎ LacksMemory output (plain_text lines)
 transcript_complete limit lane fits lines entries output t legal room =
-    let like : IsLike [] [] = record { map = refl; keys = refl; longest = refl; changed = refl } in
-    let all = text_complete limit lane fits t.pieces [] [] like t.each (subst IsLegal (sym t.of_entries) legal) (subst (λ w. (g : List Entry) → IsNoLarger g (history_from [] w) → fits g) (sym t.of_lines) room) in
+    let all = text_complete limit lane fits t.pieces [] [] keeps_none t.each (subst IsLegal (sym t.of_entries) legal) (subst (λ w. (g : List Entry) → IsNoLarger g (history_from [] w) → fits g) (sym t.of_lines) room) in
     subst (λ w. (w ≡ plain_text lines) ⊎ LacksMemory w (plain_text lines)) t.of_output (subst (λ w. (text_of t.pieces ≡ plain_from [] w) ⊎ LacksMemory (text_of t.pieces) (plain_from [] w)) t.of_lines all)
 
 -- a transcript of lines for which there is room
 pub transcript_whole : (limit : Option ℕ) (lane : ℕ) (fits : List Entry → Type 0) (lines : List (List ℕ)) (entries : List Entry) (output : List ℕ) → IsTranscript limit lane true fits [] lines entries output → IsLegal entries → HasRoomFor fits lines
     → (output ≡ plain_text lines) ⊎ HasLine (codes "NOMEM") output
 transcript_whole limit lane fits lines entries output t legal room = whole_complete output (plain_text lines) (transcript_complete limit lane fits lines entries output t legal room)
-
--- There is room for some first part of what there is room for.
-pub room_asked : (fits : List Entry → Type 0) (lines all : List (List ℕ)) → IsPrefix (map request lines) (map request all) → HasRoomFor fits all → HasRoomFor fits lines
-room_asked fits lines all begins room g no_larger = room g (larger_prefix g (map request lines) (map request all) begins no_larger)
-
-room_prefix : (fits : List Entry → Type 0) (lines all : List (List ℕ)) → IsPrefix lines all → HasRoomFor fits all → HasRoomFor fits lines
-room_prefix fits lines all begins = room_asked fits lines all (map request begins.0, sym (map-append request lines begins.0) ∙ ap (map request) begins.1)
 
 module _ (fits : List Entry → Type 0) (bytes : List ℕ) (ended : Bool) (lines : List (List ℕ)) (output : List ℕ) (room : HasRoomFor fits (served bytes ended)) (found : HasRoomFor fits lines → (output ≡ plain_text lines) ⊎ LacksMemory output (plain_text lines)) where
   all_lines : lines ≡ served bytes ended → (output ≡ plain_text lines) ⊎ HasLine (codes "NOMEM") output
@@ -169,5 +152,6 @@ sole_session end budget t u w v limit lane sole fits i j m n a b alone new sessi
     let r = found.2 in
     let legal : IsLegal r.entries = subst IsLegal (r.grows.alone refl) r.grows.legal in record {
       plain = plain_session end budget t u w v limit lane fits i j m n a b new s;
+      never_full = never_full limit lane fits s.bytes s.ended r.lines r.entries r.output r.transcript legal end w v r.of_all r.said;
       complete = λ room. complete_by fits s.bytes s.ended r.lines r.output room (transcript_complete limit lane fits r.lines r.entries r.output r.transcript legal) end budget w v s.taken r.of_all r.said;
     }

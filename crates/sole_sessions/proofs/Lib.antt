@@ -1,3 +1,7 @@
-pub mod Likeness
+pub mod Covering
+pub mod Larger
+pub mod KeepingUp
+pub mod FreeLines
+pub mod NeverFull
 pub mod Completing
 pub mod FewChanges
