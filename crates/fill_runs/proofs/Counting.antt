@@ -1,6 +1,6 @@
 -- Counts that go on over a text, byte by byte.
-use Rattle.std.proofs.Common.{◌≡◌, ℕ, zero, suc, ◌+◌, ◌-◌, ◌<◌, ◌≤◌, ◌^◌, min, List, [], ◌∷◌, ◌++◌, take, drop, length, get_or, Bool, true, false, cond, eqb, refl, sym, ap, ◌∙◌, subst, append_assoc, arith, length-take, length-append}
-use Rattle.std.specs.List.{count_by, sum_by}
+use Rattle.std.proofs.Common.{◌≡◌, ℕ, zero, suc, ◌+◌, ◌-◌, ◌<◌, ◌≤◌, ◌^◌, min, List, [], ◌∷◌, ◌++◌, take, length, true, false, cond, eqb, refl, sym, ap, ◌∙◌, arith, length-take, length-append}
+use Rattle.std.specs.List.{count_by}
 use Rattle.std.specs.Prelude.{◌&&◌, if◌then◌else◌}
 use Rattle.std.specs.Str.{bytes_eq}
 use Rattle.std.proofs.lemmas.List.{append-nil, take-append-le}

@@ -1,6 +1,6 @@
 -- A session over made lines serves all of them, or some where memory is wanting.
-use Rattle.std.proofs.Common.{◌≡◌, ◌⊎◌, inl, inr, ℕ, ◌+◌, ◌*◌, ◌^◌, ◌<◌, ◌≤◌, List, [], ◌∷◌, ◌++◌, length, Bool, true, false, Option, Some, None, refl, sym, ap, ◌∙◌, subst, arith, length-append}
-use Rattle.std.specs.Prelude.{IsTrue, codes}
+use Rattle.std.proofs.Common.{◌≡◌, ◌⊎◌, inl, inr, ℕ, ◌^◌, ◌≤◌, List, [], ◌++◌, length, Bool, true, false, Option, Some, None, refl, sym, ap, ◌∙◌, subst, arith, length-append}
+use Rattle.std.specs.Prelude.{codes}
 use Rattle.std.specs.List.{list_any}
 use Rattle.std.proofs.lemmas.List.{append-nil}
 use mathlib.Core.List.{IsPrefix}
@@ -11,7 +11,7 @@ use Rattle.map_model.specs.declared.refusal.Refusal.{Refusal}
 use Rattle.outside.specs.Reading.{Told, Took, Ended}
 use Rattle.outside.specs.Writing.{Wrote}
 use Rattle.line_protocol.specs.Served.{served, quits}
-use Rattle.session.specs.Plain.{HasNoRefusal, plain_text, plain_output, PlainSession}
+use Rattle.session.specs.Plain.{HasNoRefusal, plain_text, plain_output}
 use Rattle.session.specs.Sessions.{Session, Replies, TakenBy}
 use Rattle.session.specs.declared.session.SessionEnd.{SessionEnd}
 use Rattle.session.specs.declared.session.SessionEnd.TheVariants as ends
@@ -20,10 +20,12 @@ use Rattle.session.proofs.PlainSessions.{plain_session}
 use Rattle.session.proofs.SessionSteps.{ends_early}
 use Rattle.sole_sessions.specs.Rooms.{HasRoomFor}
 use Rattle.sole_sessions.proofs.Completing.{transcript_whole}
+use Rattle.sole_sessions.proofs.NeverFull.{transcript_never_full}
 use Rattle.generated_lines.specs.Generator.{made, lines_text, generated}
 use Rattle.fill_runs.specs.Summary.{counted}
 use Rattle.fill_runs.specs.Fills.{AllServed, SomeServed}
 use Rattle.fill_runs.proofs.ToldRefusals.{memory_counted, none_counted}
+use Rattle.fill_runs.proofs.Uncounted.{uncounted}
 use Rattle.fill_runs.proofs.MadeLines.{AreMade, made_are, none_quits, all_served, some_served, text_short, made_count}
 
 -- what was taken is a first part of what was left
@@ -80,7 +82,7 @@ module _ (number count : ℕ) (small : count ≤ 2 ^ 32) (t : Told) (left : t.le
         let never : (old : List Entry) → a old → ⊥ = λ old is.
         let r = (s.replies old is).2 in
         let no : false ≡ true = sym stays ∙ (ap (list_any quits) (sym r.of_all.0) ∙ r.of_all.1) in cc in
-        record { replies = λ old is. absurd (never old is); plain = λ alone new full memory. absurd (never [] new); complete = λ alone new room memory. absurd (never [] new) }
+        record { replies = λ old is. absurd (never old is); plain = λ alone new full memory. absurd (never [] new); complete = λ alone new room memory. absurd (never [] new); never_full = λ alone new room. absurd (never [] new) }
 
     -- where there is room for the lines
     complete_by_end : (h : List Entry) → Replies ends.EndOfInput (made number count) (Some []) (Some out) (Some 1) lane true fits i j m n [] h → HasRoomFor fits (made number count) → counted (codes "NOMEM") out ≡ 0 → out ≡ plain_output (generated number count)
@@ -92,11 +94,19 @@ module _ (number count : ℕ) (small : count ≤ 2 ^ 32) (t : Told) (left : t.le
           | inr line ↦ absurd (memory_counted (Some 1) lane true fits [] r.lines r.entries r.output r.transcript (ap (counted (codes "NOMEM")) (sym told) ∙ memory) line)
         ]
 
+    -- and whatever memory was wanting
+    full_by_end : (h : List Entry) → Replies ends.EndOfInput (made number count) (Some []) (Some out) (Some 1) lane true fits i j m n [] h → HasRoomFor fits (made number count) → counted (codes "FULL") out ≡ 0
+    full_by_end h r room =
+        let none = transcript_never_full (Some 1) lane fits r.lines r.entries r.output r.transcript (subst IsLegal (r.grows.alone refl) r.grows.legal) (subst (HasRoomFor fits) (sym r.of_all.0) room) in
+        ap (counted (codes "FULL")) (same_written out r.output r.said) ∙ uncounted (codes "FULL") r.output none
+
     -- the input came to its end
     pub all_by_end : Session ends.EndOfInput (2 ^ 40) (Some t) u (Some []) (Some out) (Some 1) lane sole fits i j m n a b → AllServed number count out lane sole fits i j m n a b
     all_by_end s =
         let answered = subst (Ended (Some t) u) s.taken.1 s.answered in
-        let same : served s.bytes s.ended ≡ made number count = ap (served s.bytes) s.taken.1 ∙ served_all s.bytes s.took answered in record {
+        let same : served s.bytes s.ended ≡ made number count = ap (served s.bytes) s.taken.1 ∙ served_all s.bytes s.took answered in
+        let of_made : (found : (h : List Entry) × b h × Replies ends.EndOfInput (served s.bytes s.ended) (Some []) (Some out) (Some 1) lane sole fits i j m n [] h) → sole ≡ true → Replies ends.EndOfInput (made number count) (Some []) (Some out) (Some 1) lane true fits i j m n [] found.0 = λ found alone.
+        subst (λ o. Replies ends.EndOfInput (made number count) (Some []) (Some out) (Some 1) lane o fits i j m n [] found.0) alone (subst (λ all. Replies ends.EndOfInput all (Some []) (Some out) (Some 1) lane sole fits i j m n [] found.0) same found.2) in record {
           replies = subst (λ all. Follows a b (Replies ends.EndOfInput all (Some []) (Some out) (Some 1) lane sole fits i j m n)) same s.replies;
           plain = λ alone new full memory.
               let p = plain_session ends.EndOfInput (2 ^ 40) (Some t) u (Some []) (Some out) (Some 1) lane fits i j m n a b new (subst (λ o. Session ends.EndOfInput (2 ^ 40) (Some t) u (Some []) (Some out) (Some 1) lane o fits i j m n a b) alone s) in
@@ -106,10 +116,8 @@ module _ (number count : ℕ) (small : count ≤ 2 ^ 32) (t : Told) (left : t.le
               (ap (counted (codes "FULL")) (sym (same_written out r.output r.said)) ∙ full) (ap (counted (codes "NOMEM")) (sym (same_written out r.output r.said)) ∙ memory)) in
               let taken = all_taken t u p.bytes p.took (subst (Ended (Some t) u) p.taken.1 p.answered) ∙ left in
               told ∙ (p.plain (subst HasNoRefusal told none) ∙ ap plain_output taken);
-          complete = λ alone new room memory.
-              let found = s.replies [] new in
-              let of_made = subst (λ all. Replies ends.EndOfInput all (Some []) (Some out) (Some 1) lane sole fits i j m n [] found.0) same found.2 in
-              complete_by_end found.0 (subst (λ o. Replies ends.EndOfInput (made number count) (Some []) (Some out) (Some 1) lane o fits i j m n [] found.0) alone of_made) room memory;
+          complete = λ alone new room memory. let found = s.replies [] new in complete_by_end found.0 (of_made found alone) room memory;
+          never_full = λ alone new room. let found = s.replies [] new in full_by_end found.0 (of_made found alone) room;
         }
 
     -- memory was wanting

@@ -5,3 +5,4 @@ mod Requests
 mod Summing
 mod Tallying
 mod ToldRefusals
+mod Uncounted

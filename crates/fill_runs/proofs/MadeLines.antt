@@ -1,14 +1,14 @@
 -- The made lines are the lines of their text, all of them are served, and a first part of the text is served without an end.
-use Rattle.std.proofs.Common.{◌≡◌, ◌≢◌, ℕ, zero, suc, ◌+◌, ◌-◌, ◌*◌, ◌^◌, ◌<◌, ◌≤◌, List, [], ◌∷◌, ◌++◌, take, length, filter, All, Bool, true, false, not, ◌&&◌, ◌||◌, cond, eqb, refl, sym, ap, ◌∙◌, subst, append_assoc, arith, length-append}
+use Rattle.std.proofs.Common.{◌≡◌, ℕ, zero, suc, ◌+◌, ◌-◌, ◌*◌, ◌^◌, ◌≤◌, List, [], ◌∷◌, ◌++◌, take, length, filter, true, false, not, ◌&&◌, ◌||◌, cond, eqb, refl, sym, ap, ◌∙◌, subst, append_assoc, arith, length-append}
 use Rattle.std.specs.List.{list_any}
-use Rattle.std.specs.Prelude.{slice_index, if◌then◌else◌, ◌==◌}
+use Rattle.std.specs.Prelude.{slice_index, ◌==◌}
 use Rattle.std.proofs.lemmas.List.{append-nil}
 use mathlib.Core.List.{IsPrefix}
 use Rattle.line_reader.specs.Cut.{without_cr, lines, ended_lines, open_part, last_line}
 use Rattle.line_reader.proofs.Cutting.{ended_lines-append, open_part-append, lines_are}
 use Rattle.line_protocol.specs.Served.{has_bytes, quits, until_quit, served}
 use Rattle.line_protocol.proofs.Serving.{until_quit_none}
-use Rattle.generated_lines.specs.Generator.{next_number, made_line, made_from, made, lines_text, generated}
+use Rattle.generated_lines.specs.Generator.{next_number, made_from, lines_text}
 use Rattle.fill_runs.proofs.Requests.{clean, IsMade, line_made}
 
 -- bytes without LF are no line yet

@@ -1,7 +1,5 @@
 -- Made lines are requests, one a line, none of which quits.
-use Rattle.std.proofs.Common.{◌≡◌, ◌≢◌, ℕ, zero, suc, ◌+◌, ◌-◌, ◌*◌, ◌/◌, ◌%◌, ◌^◌, ◌<◌, ◌≤◌, List, [], ◌∷◌, ◌++◌, take, drop, length, filter, Bool, true, false, not, ◌&&◌, cond, eqb, ltb, codes, decimal, refl, sym, ap, ◌∙◌, subst, append_assoc, arith, length-append, Option, Some, None, Result, Ok, Err}
-use Rattle.std.specs.List.{list_any}
-use Rattle.std.specs.Str.{bytes_eq}
+use Rattle.std.proofs.Common.{◌≡◌, ℕ, zero, suc, ◌+◌, ◌/◌, ◌%◌, ◌^◌, ◌<◌, ◌≤◌, List, [], ◌∷◌, ◌++◌, length, Bool, true, false, not, ◌&&◌, cond, eqb, ltb, codes, decimal, refl, ap, ◌∙◌, arith, length-append, Option, Some, None, Result, Ok, Err}
 use Rattle.std.proofs.lemmas.Bool.{ne_eqb}
 use Rattle.std.proofs.lemmas.Fmt.{decimal_by_steps, length-decimal-le}
 use Rattle.std.specs.Prelude.{◌==◌, nat_lt, if◌then◌else◌}
@@ -12,9 +10,9 @@ use Rattle.key_bytes.specs.declared.bound.Bound.TheVariants.{Low, High}
 use Rattle.line_protocol.specs.declared.request.Request.TheVariants.{Put, Get, Del, Scan}
 use Rattle.line_protocol.specs.Parts.{key_of, value_of, end_of, limit_of}
 use Rattle.line_protocol.specs.Words.{words_of, one, two, three}
-use Rattle.line_protocol.specs.Requests.{Asked, and_then, put_of, get_of, del_of, scan_of, asked, request, is_quit}
+use Rattle.line_protocol.specs.Requests.{Asked, and_then, put_of, get_of, del_of, scan_of, asked, is_quit}
 use Rattle.line_protocol.specs.Served.{has_bytes, quits}
-use Rattle.generated_lines.specs.Generator.{next_number, digits, item_key, request_of, made_line, made_from, lines_text}
+use Rattle.generated_lines.specs.Generator.{digits, item_key, request_of, made_line}
 
 -- what is asked behind a part that may be at fault doesn't quit where the rest doesn't
 then_no_quit : {A : Type 0} (r : Result A RequestFault) (f : A → Asked) → ((x : A) → is_quit (f x) ≡ false) → is_quit (and_then r f) ≡ false

@@ -1,7 +1,6 @@
 -- A line of an output that begins with the word of a refusal has it for its first word, so where none is counted there is none.
-use Rattle.std.proofs.Common.{◌≡◌, ◌≢◌, ◌⊎◌, inl, inr, ℕ, zero, suc, ◌+◌, ◌-◌, ◌<◌, ◌≤◌, List, [], ◌∷◌, ◌++◌, take, length, All, Bool, true, false, not, ◌&&◌, ◌||◌, cond, eqb, codes, refl, sym, ap, ◌∙◌, subst, append_assoc, arith, Option, Some, None, Ok, Err}
+use Rattle.std.proofs.Common.{◌≡◌, ◌≢◌, ◌⊎◌, inl, inr, ℕ, ◌+◌, List, [], ◌∷◌, ◌++◌, length, All, Bool, true, false, not, ◌&&◌, ◌||◌, cond, eqb, codes, refl, sym, ap, ◌∙◌, subst, append_assoc, arith, Option, Some, None, Ok, Err}
 use Rattle.std.specs.List.{list_all, flat_map, count_by}
-use Rattle.std.specs.Str.{bytes_eq}
 use Rattle.std.proofs.lemmas.Bool.{ne_eqb}
 use Rattle.std.proofs.lemmas.List.{append-nil}
 use Rattle.std.proofs.lemmas.List.Sums.{sum_by-append}
@@ -25,7 +24,7 @@ use Rattle.line_protocol.proofs.OneLine.{text_one_line, pair_one_line}
 use Rattle.session.specs.Plain.{IsLineStart, HasLine, HasNoRefusal}
 use Rattle.session.specs.Replies.{refusal_line, end_line, pair_lines, reply_lines}
 use Rattle.session.specs.Scans.{EndsScan}
-use Rattle.session.specs.Transcripts.{Exchange, IsAnswered, IsRefused, IsScanned, IsTold, IsServedAs, AreServed, text_of, IsTranscript}
+use Rattle.session.specs.Transcripts.{Exchange, IsAnswered, IsRefused, IsServedAs, AreServed, text_of, IsTranscript}
 use Rattle.fill_runs.specs.Summary.{lines_behind, start_behind, has_word, counted}
 use Rattle.fill_runs.proofs.Counting.{lines_behind-append, start_behind-append}
 

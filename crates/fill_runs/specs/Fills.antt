@@ -21,6 +21,8 @@ pub record AllServed (number count : ℕ) (output : List ℕ) (lane : ℕ) (sole
   pub plain : IsTrue sole → before [] → counted (codes "FULL") output ≡ 0 → counted (codes "NOMEM") output ≡ 0 → output ≡ plain_output (generated number count)
   -- and so it is where the store has room for what the lines put, and no line tells of want of memory
   pub complete : IsTrue sole → before [] → HasRoomFor fits (made number count) → counted (codes "NOMEM") output ≡ 0 → output ≡ plain_output (generated number count)
+  -- there no line tells of want of room, also where some tell of want of memory
+  pub never_full : IsTrue sole → before [] → HasRoomFor fits (made number count) → counted (codes "FULL") output ≡ 0
 
 -- Some first lines were served, and memory was wanting behind them.
 abbrev pub SomeServed : ℕ → ℕ → ℕ → Bool → (List Entry → Type 0) → ℕ → ℕ → Option Refusal → Option Refusal → (List Entry → Type 0) → (List Entry → Type 0) → Type 0

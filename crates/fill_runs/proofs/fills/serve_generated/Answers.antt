@@ -1,5 +1,4 @@
-use Rattle.std.proofs.Common.{◌≡◌, List, ℕ, ap, refl, arith}
-use Rattle.map_model.specs.History.{Entry}
+use Rattle.std.proofs.Common.{ap, arith}
 use Rattle.outside.specs.Reading.{Told}
 use Rattle.fill_runs.proofs.Filling.{all_by, want_by, never_by, none_by_want}
 use Rattle.fill_runs.proofs.fills.serve_generated.Goals as goal

@@ -1,4 +1,4 @@
-use Rattle.std.proofs.Common.{◌≡◌, ◌++◌, ◌<◌, ◌^◌, length, IfOk, sym, ap, ◌∙◌, subst, arith}
+use Rattle.std.proofs.Common.{◌≡◌, ◌++◌, IfOk, ap, ◌∙◌, subst}
 use Rattle.fill_runs.specs.Summary.{summary}
 use Rattle.fill_runs.specs.Tallies.{summary_of}
 use Rattle.fill_runs.proofs.Summing.{summary_told}

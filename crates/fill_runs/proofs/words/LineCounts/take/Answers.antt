@@ -1,5 +1,5 @@
-use Rattle.std.proofs.Common.{◌≡◌, ◌++◌, ◌∷◌, [], ap, sym, ◌∙◌, subst, take, arith, rules}
-use Rattle.fill_runs.specs.Tallies.{AreCounts, IsTallied}
+use Rattle.std.proofs.Common.{◌++◌, ◌∷◌, [], ap, sym, ◌∙◌, subst, take, arith, rules}
+use Rattle.fill_runs.specs.Tallies.{IsTallied}
 use Rattle.fill_runs.proofs.Counting.{start_ended}
 use Rattle.fill_runs.proofs.Tallying.{tallied_more, tallied_full}
 use Rattle.fill_runs.proofs.words.LineCounts.take.Goals as goal

@@ -1,7 +1,5 @@
-use Rattle.std.proofs.Common.{◌≡◌, List, ℕ, take, arith}
+use Rattle.std.proofs.Common.{arith}
 use Rattle.std.specs.Prelude.{codes}
-use Rattle.fill_runs.specs.Summary.{start_behind}
-use Rattle.fill_runs.specs.Tallies.{AreCounts}
 use Rattle.fill_runs.proofs.Counting.{count_ended}
 use Rattle.fill_runs.proofs.words.WordCounts.add.Goals as goal
 
