@@ -1,7 +1,6 @@
 -- A fill of an index that stands for the empty history.
-use Rattle.std.proofs.Common.{◌≡◌, ◌≤◌, ◌<◌, ◌^◌, ◌⊎◌, ℕ, List, [], true, refl, sym, ap, ◌∙◌, subst, inl, inr, Option, Some, None, arith}
+use Rattle.std.proofs.Common.{◌≡◌, ◌<◌, ◌^◌, ℕ, List, [], true, refl, sym, subst, inl, inr, Option, Some, None, arith}
 use Rattle.fill_runs.specs.Fills as fills
-use Rattle.fill_runs.specs.Summary.{summary}
 use Rattle.fill_runs.specs.declared.fills.FillEnd.{FillEnd}
 use Rattle.fill_runs.specs.declared.fills.FillEnd.TheVariants as ends
 use Rattle.fill_runs.proofs.Filling.{none_by_want}
@@ -13,10 +12,11 @@ use Rattle.outside.proofs.Pieces.{wrote_none}
 use Rattle.row_words.specs.Shape.{IsShape}
 use Rattle.row_words.specs.declared.shape.Shape.{Shape}
 use Rattle.session.specs.declared.session.SessionEnd.TheVariants as sessions
+use Rattle.sole_sessions.specs.Rooms.{HasRoomFor}
 use Rattle.sole_sessions.proofs.FewChanges.{changes_of_lines}
 use Rattle.solo_index.specs.Standing.{Fits}
 use Rattle.worm.specs.Fills.{fill_status, HasSummary, Filled}
-use Rattle.worm.specs.Runs.{IsNew}
+use Rattle.worm.specs.Runs.{IsNew, IsWithin}
 use Rattle.worm.proofs.Rooms.{within_room}
 use Rattle.worm.proofs.Running.{replies_new}
 
@@ -26,6 +26,7 @@ module _ (k : Shape) (number count : ℕ) (w v : Option (List ℕ)) (j : ℕ) (n
     replies = replies_new sessions.EndOfInput (made number count) (Some []) (Some output) (Some 1) 0 true (Fits k) 0 j None n a b new s.replies;
     plain = λ alone is_new. s.plain alone new;
     complete = λ alone is_new. s.complete alone new;
+    never_full = λ alone is_new. s.never_full alone new;
   }
 
   some_new : fills.SomeServed number count 0 true (Fits k) 0 j None n a b → fills.SomeServed number count 0 true (Fits k) 0 j None n IsNew IsLegal
@@ -35,13 +36,17 @@ module _ (k : Shape) (number count : ℕ) (w v : Option (List ℕ)) (j : ℕ) (n
   served_new end (inl s) = inl (record { output = s.output; served = all_new s.output s.served; said = s.said })
   served_new end (inr s) = inr (record { only = s.only; served = some_new s.served; nothing = s.nothing })
 
+  room_made : IsShape k → count < 2 ^ 32 → IsWithin k (made number count) → HasRoomFor (Fits k) (made number count)
+  room_made shape small within = within_room k (made number count) shape (omega (arith, small, changes_of_lines (made number count), made_count number 0 count)) within
+
   -- the whole summary
   summed_new : (shape : IsShape k) → count < 2 ^ 32 → (end : FillEnd) (status : ℕ) → status ≡ fill_status end → fills.Filled end number count w v 0 true (Fits k) 0 j None n a b → status ≡ 0 → HasSummary k number count w v
   summed_new shape small ends.Done status is (inl s) done = record {
     output = s.output;
     wrote = s.said;
     plain = s.served.plain refl new;
-    complete = λ within. s.served.complete refl new (within_room k (made number count) shape (omega (arith, small, changes_of_lines (made number count), made_count number 0 count)) within);
+    complete = λ within. s.served.complete refl new (room_made shape small within);
+    never_full = λ within. s.served.never_full refl new (room_made shape small within);
   }
   summed_new shape small ends.Done status is (inr s) done = let no : ends.Done ≡ ends.NoMemory = s.only in absurd cc
   summed_new shape small ends.WriteFault status is s done = absurd (omega (arith, is, done))

@@ -1,13 +1,12 @@
 -- Where lines are within a shape, there is room for what they put.
-use Rattle.std.proofs.Common.{◌≡◌, ◌<◌, ◌≤◌, ◌+◌, ◌*◌, ◌/◌, ◌%◌, ◌^◌, ℕ, List, length, true, arith}
+use Rattle.std.proofs.Common.{◌<◌, ◌≤◌, ◌/◌, ◌^◌, ℕ, List, arith}
 use Rattle.std.proofs.lemmas.Nat.{le-div, mul-le}
 use Rattle.history_sizes.specs.Sizes.{new_keys, longest_new, changes}
-use Rattle.map_model.specs.History.{Entry}
 use Rattle.row_words.specs.Shape.{IsShape}
 use Rattle.row_words.specs.declared.shape.Shape.{Shape}
 use Rattle.solo_index.specs.Standing.{Fits}
 use Rattle.sole_sessions.specs.PlainHistory.{plain_history}
-use Rattle.sole_sessions.specs.Rooms.{HasRoomFor, IsNoLarger}
+use Rattle.sole_sessions.specs.Rooms.{HasRoomFor}
 use Rattle.worm.specs.Runs.{IsWithin}
 
 div_mono : (m n d : ℕ) → 0 < d → m ≤ n → m / d ≤ n / d

@@ -1,11 +1,7 @@
 -- A session over an index that stands for the empty history is a run.
-use Rattle.std.proofs.Common.{◌≡◌, ◌⊎◌, ◌<◌, ◌≤◌, ℕ, List, [], length, map, Bool, true, false, refl, sym, ap, ◌∙◌, subst, inl, inr, Option, Some, None, arith}
-use Rattle.std.specs.Prelude.{codes}
-use Rattle.std.specs.List.{list_any}
-use Rattle.std.proofs.lemmas.List.{append-nil}
+use Rattle.std.proofs.Common.{◌≡◌, ◌<◌, ◌≤◌, ℕ, List, [], length, Bool, true, false, refl, sym, subst, inl, inr, Option, Some, None, arith}
 use Rattle.counts.specs.Counts.{Rose}
-use Rattle.line_protocol.specs.Requests.{request}
-use Rattle.line_protocol.specs.Served.{served, quits}
+use Rattle.line_protocol.specs.Served.{served}
 use Rattle.map_model.specs.History.{Entry, IsLegal}
 use Rattle.map_model.specs.Ordered.{Follows}
 use Rattle.map_model.specs.declared.refusal.Refusal.{Refusal}
@@ -13,15 +9,16 @@ use Rattle.outside.specs.Reading.{Told}
 use Rattle.outside.proofs.Pieces.{took_none, wrote_none, ended_none}
 use Rattle.row_words.specs.Shape.{IsShape}
 use Rattle.row_words.specs.declared.shape.Shape.{Shape}
-use Rattle.session.specs.Plain.{HasLine, PlainBy}
+use Rattle.session.specs.Plain.{PlainBy}
 use Rattle.session.specs.Sessions.{Session, Replies, TakenBy}
 use Rattle.session.specs.declared.session.SessionEnd.{SessionEnd}
 use Rattle.session.specs.declared.session.SessionEnd.TheVariants as ends
-use Rattle.session.proofs.PlainSessions.{served_begins, plain_session}
+use Rattle.session.proofs.PlainSessions.{served_begins}
 use Rattle.sole_sessions.specs.Rooms.{HasRoomFor}
 use Rattle.sole_sessions.specs.SoleSessions.{SoleSession}
-use Rattle.sole_sessions.proofs.Completing.{room_asked, sole_session}
+use Rattle.sole_sessions.proofs.Completing.{sole_session}
 use Rattle.sole_sessions.proofs.FewChanges.{few_changes}
+use Rattle.sole_sessions.proofs.Larger.{room_asked}
 use Rattle.solo_index.specs.Standing.{Fits}
 use Rattle.worm.specs.Runs.{status_of, most_bytes, IsNew, IsWithin, IsComplete, Ran}
 use Rattle.worm.proofs.Rooms.{within_room}
@@ -43,6 +40,20 @@ replies_new end all w v limit lane sole fits i j m n a b new replies =
     let found = replies [] new in
     λ old is_new. (found.0, found.2.grows.legal, subst (λ h. Replies end all w v limit lane sole fits i j m n h found.0) (sym is_new) found.2)
 
+-- a session takes no more bytes than the most
+taken_few : (end : SessionEnd) (bytes : List ℕ) (ended : Bool) → TakenBy end most_bytes bytes ended → length bytes ≤ most_bytes
+taken_few ends.Quit bytes ended taken = taken
+taken_few ends.EndOfInput bytes ended taken = omega (arith, taken.0)
+taken_few ends.ReadFault bytes ended taken = omega (arith, taken.0)
+taken_few ends.WriteFault bytes ended taken = taken
+taken_few ends.NoMemory bytes ended taken = taken
+taken_few (ends.Spent count) bytes ended taken = omega (arith, taken.0)
+
+-- Where what the lines put is within the shape, there is room for it.
+room_within : (k : Shape) (end : SessionEnd) (bytes : List ℕ) (ended : Bool) → IsShape k → TakenBy end most_bytes bytes ended → IsWithin k (served bytes true) → HasRoomFor (Fits k) (served bytes ended)
+room_within k end bytes ended shape taken within =
+    room_asked (Fits k) (served bytes ended) (served bytes true) (served_begins bytes ended) (within_room k (served bytes true) shape (omega (arith, few_changes bytes true, taken_few end bytes ended taken)) within)
+
 ran_new : (k : Shape) (end : SessionEnd) (status : ℕ) (t u : Option Told) (w v : Option (List ℕ)) (j : ℕ) (n : Option Refusal) (a b : List Entry → Type 0) (reads reads_now writes writes_now : ℕ)
     → IsShape k → status ≡ status_of end → (end ≡ ends.ReadFault → Rose reads reads_now) → (end ≡ ends.WriteFault → Rose writes writes_now)
     → a [] → Session end most_bytes t u w v (Some 1) 0 true (Fits k) 0 j None n a b → SoleSession end most_bytes t u w v (Fits k) → Ran k status t u w v reads reads_now writes writes_now
@@ -63,11 +74,11 @@ ran_new k end status t u w v j n a b reads reads_now writes writes_now shape of_
       plain = sole.plain;
       complete = λ no_read no_write few within.
           let p = sole.plain in
-          let changed = few_changes p.bytes true in
-          elim (sole.complete (room_asked (Fits k) (served p.bytes p.ended) (served p.bytes true) (served_begins p.bytes p.ended) (within_room k (served p.bytes true) shape (omega arith) within))) [
+          elim (sole.complete (room_within k end p.bytes p.ended shape p.taken within)) [
             | inl same ↦ complete_by end status p.bytes p.ended p.output of_end (λ e. no_read (read e)) (λ e. no_write (write e)) p.taken few same
             | inr line ↦ inr (inr line)
           ];
+      never_full = λ within. let p = sole.plain in sole.never_full (room_within k end p.bytes p.ended shape p.taken within);
     }
 
 -- over an index as it was made
@@ -81,8 +92,8 @@ ran k made end status t u w v i j m n a b reads reads_now writes writes_now same
     (subst (λ q. SoleSession end most_bytes t u w v (Fits q)) same sole)
 
 -- Where no index could be made, nothing was read or written, as in a session that had no memory.
-pub ran_nothing : (k : Shape) (status : ℕ) (t : Option Told) (w : Option (List ℕ)) (reads writes : ℕ) → status ≡ 5 → Ran k status t t w w reads reads writes writes
-ran_nothing k status t w reads writes is =
+pub ran_nothing : (k : Shape) (status : ℕ) (t : Option Told) (w : Option (List ℕ)) (reads writes : ℕ) → IsShape k → status ≡ 5 → Ran k status t t w w reads reads writes writes
+ran_nothing k status t w reads writes shape is =
     let none : Replies ends.NoMemory (served [] false) w w (Some 1) 0 true (Fits k) 0 0 None None [] [] = record {
       lines = [];
       entries = [];
@@ -101,12 +112,14 @@ ran_nothing k status t w reads writes is =
       answered = ended_none t;
       taken = omega arith;
       replies = λ old is_new. ([], tt, subst (λ h. Replies ends.NoMemory (served [] false) w w (Some 1) 0 true (Fits k) 0 0 None None h []) (sym is_new) none);
-    } in record {
+    } in
+    let sole = sole_session ends.NoMemory most_bytes t t w w (Some 1) 0 true (Fits k) 0 0 None None IsNew IsLegal refl refl s in record {
       end = ends.NoMemory;
       of_end = is;
       refusals = 0;
       last = None;
       session = s;
-      plain = plain_session ends.NoMemory most_bytes t t w w (Some 1) 0 (Fits k) 0 0 None None IsNew IsLegal refl s;
+      plain = sole.plain;
       complete = λ no_read no_write few within. inr (inl is);
+      never_full = λ within. let p = sole.plain in sole.never_full (room_within k ends.NoMemory p.bytes p.ended shape p.taken within);
     }

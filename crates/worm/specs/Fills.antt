@@ -27,6 +27,8 @@ pub record HasSummary (k : Shape) (number count : ℕ) (written_before written_n
   pub plain : counted (codes "FULL") output ≡ 0 → counted (codes "NOMEM") output ≡ 0 → output ≡ plain_output (generated number count)
   -- and so it is where what the made lines put is within the shape, and no line tells want of memory
   pub complete : IsWithin k (made number count) → counted (codes "NOMEM") output ≡ 0 → output ≡ plain_output (generated number count)
+  -- there no line tells want of room, also where some tell want of memory
+  pub never_full : IsWithin k (made number count) → counted (codes "FULL") output ≡ 0
 
 -- What a fill made and wrote.
 pub record Filled (k : Shape) (number count status : ℕ) (written_before written_now : Option (List ℕ)) : Type 0 where

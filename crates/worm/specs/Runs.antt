@@ -58,3 +58,5 @@ pub record Ran (k : Shape) (status : ℕ) (told_before told_now : Option Told) (
   pub plain : PlainSession end most_bytes told_before told_now written_before written_now
   -- and where nothing failed, the input had fewer bytes than the most, and what its lines put is within the shape, all of that was written unless memory was wanting
   pub complete : (Rose reads_before reads_now → ⊥) → (Rose writes_before writes_now → ⊥) → length plain.bytes < most_bytes → IsWithin k (served plain.bytes true) → IsComplete status plain.bytes plain.output
+  -- where what its lines put is within the shape, none tells want of room, also where one tells want of memory or something failed
+  pub never_full : IsWithin k (served plain.bytes true) → HasLine (codes "FULL") plain.output → ⊥

@@ -10,7 +10,7 @@ mod top;
 
 use standard_ends::{Outgoing, StdSink, StdSource};
 use std::cell::RefCell;
-use std::io::ErrorKind;
+use std::io::{ErrorKind, Write};
 use std::process::ExitCode;
 use std::rt::Env;
 use std::{env, io};
@@ -32,12 +32,22 @@ fn main(rt: HostRuntime) -> ExitCode {
 /// fault as well, however it ended.
 fn over_standard_ends(rt: &HostRuntime, words: &Vec<String>) -> Outcome {
     let outgoing = RefCell::new(Outgoing::new(rt.alloc(), rt.stdout()));
-    let mut source = StdSource::new(rt.stdin(), &outgoing);
-    let mut sink = StdSink::new(&outgoing);
-    let outcome = worm(rt.alloc(), words, &mut source, &mut sink);
+    let outcome = between_ends(rt, words, &outgoing);
     match outgoing.into_inner().finish() {
         Some(_) => outcome,
         None => Outcome { status: 4 },
+    }
+}
+
+/// Carries out the command over standard input and what goes to standard output.
+fn between_ends<W: Write>(
+    rt: &HostRuntime,
+    words: &Vec<String>,
+    outgoing: &RefCell<Outgoing<W>>,
+) -> Outcome {
+    match StdSource::new(rt.alloc(), rt.stdin(), outgoing) {
+        Ok(mut source) => worm(rt.alloc(), words, &mut source, &mut StdSink::new(outgoing)),
+        Err(_) => Outcome { status: 5 },
     }
 }
 

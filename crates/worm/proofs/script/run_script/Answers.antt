@@ -10,4 +10,4 @@ returns-in-Ok-clause-ran g c =
     ran _ _ c.serve_sole-end.result _ _ _ _ _ _ _ _ _ _ _ _ _ _ _ (ap (λ (s : Store). s.table.shape) made) (ap (λ (s : Store). s.refusals) made) (ap (λ (s : Store). s.last) made) c.requires c.status_of.ensures ends.read ends.write c.in-Ok.ensures.stands ends.session ends.output
 
 pub returns-in-Err-clause-ran : goal.returns-in-Err-clause-ran
-returns-in-Err-clause-ran g c = ran_nothing _ _ _ _ _ _ refl
+returns-in-Err-clause-ran g c = ran_nothing _ _ _ _ _ _ c.requires refl
