@@ -1,12 +1,15 @@
 //! A list of bytes.
-ghost use Rattle.std.specs.Prelude.{◌≡◌};
+ghost use Rattle.std.specs.Prelude.{◌≡◌, IfOk, OnOk, OnErr};
 
+use smallvec::SmallVec;
+use std::alloc::{AllocError, Global};
 use std::marker::Model;
 
-/// Any number of bytes, such as a value, which contracts see as their list.
+/// Any number of bytes, such as a value, which contracts see as their list. Up to 32 of them lie in the
+/// value itself, which takes 48 bytes, and more than that in an allocation of their own.
 #[derive(Debug, Drop)]
 pub struct Bytes {
-    bytes: Vec<u8>,
+    bytes: SmallVec<u8, 32>,
 }
 
 impl Model for Bytes {
@@ -18,17 +21,34 @@ impl Model for Bytes {
 }
 
 impl Bytes {
-    /// These bytes, of which none is copied.
-    pub fn of(bytes: Vec<u8>) -> Bytes
-        ensures { result ≡ bytes.items }
+    /// A copy of these bytes.
+    #[inline]
+    pub fn of(alloc: Global, bytes: &[u8]) -> Result<Bytes, AllocError>
+        ensures copied { IfOk result (λ b. b ≡ bytes.now) }
     {
-        Bytes { bytes }
+        Ok(Bytes {
+            bytes: SmallVec::from_slice(alloc, bytes)?,
+        })
     }
 
     /// The bytes.
+    #[inline]
     pub fn get(&self) -> &[u8]
         ensures { result.now ≡ self.now }
     {
-        &self.bytes
+        self.bytes.as_slice()
+    }
+
+    /// Writes these bytes over its own. It takes memory only where they are more than 32 and more than
+    /// it ever had; where they are fewer, it keeps what it has.
+    pub fn set(&mut self, bytes: &[u8]) -> Result<(), AllocError>
+        ensures ok { OnOk result (self.new ≡ bytes.now) }
+        ensures refused { OnErr result (self.new ≡ self.old) }
+    {
+        // Room first: what follows is never refused, so a refusal loses no byte.
+        let more = bytes.len().saturating_sub(self.bytes.len());
+        self.bytes.reserve_exact(more)?;
+        self.bytes.clear();
+        self.bytes.extend_from_slice(bytes)
     }
 }

@@ -3,14 +3,16 @@ ghost use Rattle.std.specs.Prelude.{◌≡◌, IfOk};
 ghost use Rattle.key_bytes.specs.Key.{IsKey, IsKeyAnswer};
 ghost use Rattle.key_bytes.specs.Order.{bytes_cmp};
 
+use smallvec::SmallVec;
 use std::alloc::{AllocError, Global};
 use std::cmp::Ordering;
 use std::marker::Model;
 
-/// A key of an ordered map: 1 to 255 bytes of any value, held in one allocation of its own.
+/// A key of an ordered map: 1 to 255 bytes of any value. Up to 48 of them lie in the key itself, which
+/// takes 64 bytes, and more than that in an allocation of their own.
 #[derive(Debug, Drop)]
 pub struct Key {
-    bytes: Vec<u8>,
+    bytes: SmallVec<u8, 48>,
 }
 
 impl Model for Key {
@@ -46,18 +48,18 @@ impl Key {
         if bytes.len() > 255 {
             return Err(KeyFault::TooLong(bytes.len()));
         }
-        match bytes.to_vec(alloc) {
+        match SmallVec::from_slice(alloc, bytes) {
             Ok(bytes) => Ok(Key { bytes }),
             Err(_) => Err(KeyFault::NoMemory),
         }
     }
 
-    /// A second key of the same bytes, in an allocation of its own.
+    /// A second key of the same bytes.
     pub fn copy(&self) -> Result<Key, AllocError>
         ensures copied { IfOk result (λ k. k ≡ self.now) }
     {
         Ok(Key {
-            bytes: self.bytes.clone()?,
+            bytes: SmallVec::from_slice(*self.bytes.allocator(), self.bytes())?,
         })
     }
 
@@ -66,14 +68,7 @@ impl Key {
         ensures bytes { result.now ≡ self.now }
         ensures key { IsKey self.now }
     {
-        &self.bytes
-    }
-
-    /// Its bytes in its own allocation. None is copied.
-    pub fn into_bytes(self) -> Vec<u8>
-        ensures { result.items ≡ self }
-    {
-        self.bytes
+        self.bytes.as_slice()
     }
 
     /// The order of the bytes, from the first one on, as numbers from 0 to 255. A key comes before
@@ -82,6 +77,6 @@ impl Key {
         ensures order { result ≡ bytes_cmp self.now other.now }
         ensures keys { IsKey self.now × IsKey other.now }
     {
-        self.bytes.cmp(&other.bytes)
+        self.bytes().cmp(other.bytes())
     }
 }

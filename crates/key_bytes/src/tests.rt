@@ -43,3 +43,17 @@ fn ample_memory_is_never_refused(rt: HostRuntime) -> Result<(), Fail> {
     assert_eq!(rt; bound.order(&bound.copy()?), Ordering::Equal);
     Ok(())
 }
+
+// Each length lies on another side of what a list or a key holds in itself.
+#[test]
+fn lists_of_any_length_are_held(rt: HostRuntime) -> Result<(), Fail> {
+    let long = [7; 255];
+    let mut held = Bytes::of(rt.alloc(), b"")?;
+    for length in [32, 33, 255, 1] {
+        held.set(&long[..length])?;
+        assert_eq!(rt; held.get(), &long[..length]);
+        let key = Key::new(rt.alloc(), &long[..length])?;
+        assert_eq!(rt; key.copy()?.bytes(), held.get());
+    }
+    Ok(())
+}
