@@ -82,13 +82,13 @@ impl PlainMap {
     {
         match self.search(key) {
             Ok(at) => {
-                let value = Bytes::of(value.to_vec(self.alloc)?);
+                let value = Bytes::of(self.alloc, value)?;
                 self.pairs[at].1 = value;
                 Ok(false)
             }
             Err(at) => {
                 let key = key.copy()?;
-                let value = Bytes::of(value.to_vec(self.alloc)?);
+                let value = Bytes::of(self.alloc, value)?;
                 self.pairs.insert(at, (key, value))?;
                 Ok(true)
             }
