@@ -57,6 +57,11 @@ length-without_cr line =
     cond_both (eqb (get_or line (length line - 1) 0) 13) (take (length line - 1) line) line (λ l. length line ≤ length l + 1)
     (λ _. omega (arith, length-take (length line - 1) line)) (λ _. omega arith)
 
+pub without_cr-length : (line : List ℕ) → length (without_cr line) ≤ length line
+without_cr-length line =
+    cond_both (eqb (get_or line (length line - 1) 0) 13) (take (length line - 1) line) line (λ l. length l ≤ length line)
+    (λ _. omega (arith, length-take (length line - 1) line)) (λ _. omega arith)
+
 -- a line with more than has room is too long, whatever its end
 pub tells_over : (line part : List ℕ) → IsFront line true part → tells (without_cr part) ≡ Long
 tells_over line part front =

@@ -58,8 +58,18 @@ fn drop_cr(line: &mut Vec<u8>)
     ensures items { line.new.items ≡ without_cr line.old.items }
     ensures reserved { vec_capacity line.new ≡ vec_capacity line.old }
 {
-    let length = line.len();
-    if length > 0 && line[length - 1] == b'\r' {
-        line.truncate(length - 1);
+    let length = before_cr(line).len();
+    line.truncate(length);
+}
+
+/// The bytes without one CR at their end.
+pub(crate) fn before_cr(bytes: &[u8]) -> &[u8]
+    ensures { result.now ≡ without_cr bytes.now }
+{
+    let length = bytes.len();
+    if length > 0 && bytes[length - 1] == b'\r' {
+        &bytes[..length - 1]
+    } else {
+        bytes
     }
 }

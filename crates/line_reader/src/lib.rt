@@ -10,5 +10,5 @@ mod pieces;
 #[cfg(test)]
 mod tests;
 
-pub use lines::{Event, Lines, Taken};
+pub use lines::{Event, Lines, Taken, Whole};
 pub use pieces::read_all;

@@ -1,9 +1,10 @@
 //! Lines, told one after another.
-ghost use Rattle.std.specs.Prelude.{◌≡◌, ◌<◌, ◌≤◌, ℕ, List, [], length, take, IfOk, MatchOption};
+ghost use Rattle.std.specs.Prelude.{◌≡◌, ◌≢◌, ◌<◌, ◌≤◌, ◌∷◌, ℕ, List, [], length, take, IfOk, IfSome, IfNone, MatchBool, MatchOption};
 ghost use Rattle.line_reader.specs.Cut.{open_part, HasNoLf, EndsInFirstLf};
 ghost use Rattle.line_reader.specs.Told.{Holds, told, told_lines, last_told};
+ghost use Rattle.line_reader.specs.Told.Told.{Read};
 
-use crate::cut::{begin, end, keep};
+use crate::cut::{before_cr, begin, end, keep};
 use memchr::memchr;
 use std::alloc::{AllocError, Global};
 use std::marker::Model;
@@ -22,6 +23,13 @@ pub enum Event {
 pub struct Taken {
     pub used: usize,
     pub event: Option<Event>,
+}
+
+/// A line that was read where it lies, without its end, and how many bytes of the piece it takes with its LF.
+#[derive(Clone, Copy, Debug)]
+pub struct Whole<'a> {
+    pub line: &'a [u8],
+    pub used: usize,
 }
 
 /// A reader of lines: the front of the line that isn't ended, or the last line that was told.
@@ -63,6 +71,40 @@ impl Lines {
         ensures { result.now ≡ self.now.line }
     {
         &self.line
+    }
+
+    // Whether it holds the front of a line that isn't ended.
+    fn is_within(&self) -> bool
+        ensures { MatchBool result (self.now.kept ≢ []) (self.now.kept ≡ []) }
+    {
+        !self.ended && !self.line.is_empty()
+    }
+
+    /// The line that a piece begins with, lent from the piece: nothing is copied, and `line` doesn't have it. There is
+    /// none where the reader holds the front of a line, where no LF is in the piece, or where the line has more than
+    /// 4,096 bytes: then `take` serves.
+    pub fn whole<'a>(&self, piece: &'a [u8]) -> Option<Whole<'a>>
+        ensures used { IfSome result (λ whole. (0 < whole.used) × (whole.used ≤ length piece.now)) }
+        ensures told { (part : List ℕ) → Holds self.now part →
+            IfSome result (λ whole. told_lines part (take whole.used piece.now) ≡ Read whole.line.now ∷ []) }
+        ensures short { IfSome result (λ whole. length whole.line.now ≤ 4096) }
+        ensures held { (part : List ℕ) → Holds self.now part →
+            IfSome result (λ whole. Holds self.now (open_part part (take whole.used piece.now))) }
+        ensures none { Holds self.now [] → IfNone result (HasNoLf (take 4097 piece.now)) }
+    {
+        if self.is_within() {
+            return None;
+        }
+        match memchr(b'\n', piece) {
+            None => None,
+            Some(at) => {
+                let line = before_cr(&piece[..at]);
+                if line.len() > 4096 {
+                    return None;
+                }
+                Some(Whole { line, used: at + 1 })
+            }
+        }
     }
 
     /// Takes bytes up to and with the first LF, or all where there is none.

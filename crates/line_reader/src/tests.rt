@@ -1,7 +1,7 @@
 //! Worked lines, whose expected values were written by hand.
 ghost use Rattle.std.specs.Prelude.{◌<◌};
 
-use crate::read_all;
+use crate::{Lines, read_all};
 use std::alloc::{AllocError, Global};
 use std::test::Fail;
 
@@ -76,5 +76,29 @@ fn long_lines(rt: HostRuntime) -> Result<(), Fail> {
             assert_eq!(rt; told, want, "{count} bytes in pieces of {size}");
         }
     }
+    Ok(())
+}
+
+/// Whether the piece begins with this line, and takes so many bytes with its end.
+fn begins_with(lines: &Lines, piece: &[u8], line: &[u8], used: usize) -> bool {
+    match lines.whole(piece) {
+        None => false,
+        Some(whole) => whole.line == line && whole.used == used,
+    }
+}
+
+/// Whether lines are lent from pieces, and not while the reader holds the front of one.
+fn lends_whole_lines(lines: &mut Lines) -> bool {
+    let first = begins_with(lines, b"a\r\nb\n", b"a", 3);
+    lines.take(b"a");
+    let held = lines.whole(b"b\n").is_none();
+    lines.take(b"\n");
+    first && held && begins_with(lines, b"\n", b"", 1)
+}
+
+#[test]
+fn whole_lines(rt: HostRuntime) -> Result<(), Fail> {
+    let mut lines = Lines::new(rt.alloc())?;
+    assert!(rt; lends_whole_lines(&mut lines));
     Ok(())
 }
