@@ -15,6 +15,7 @@ mod request;
 mod scan;
 #[cfg(test)]
 mod tests;
+mod value;
 mod words;
 
 pub use answer::{Answer, pair_text, reply_text};
@@ -23,3 +24,4 @@ pub use laws::{escaped_words, one_line, request_again, unescape_again, worked_li
 pub use line_reader::{Event, Lines, Taken, read_all};
 pub use read::read_request;
 pub use request::Request;
+pub use value::Value;

@@ -6,8 +6,8 @@ ghost use Rattle.line_protocol.specs.Requests.{IsEnd, IsValue};
 
 use crate::escape::{unescape, unescape_into};
 use crate::scan::has_byte;
-use crate::{Fault, RequestFault};
-use key_bytes::{Bound, Bytes, Key, KeyFault};
+use crate::{Fault, RequestFault, Value};
+use key_bytes::{Bound, Key, KeyFault};
 use std::alloc::Global;
 
 /// The key that a word stands for. Only the key itself takes memory.
@@ -22,7 +22,9 @@ pub(crate) fn read_key(alloc: Global, word: &[u8]) -> Result<Key, RequestFault>
     }
 }
 
-/// The key of a word with escapes, which are read into a buffer that has room for the longest key.
+/// The key of a word with escapes, which are read into a buffer that has room for the longest key. It
+/// stays a call, so that a key without escapes is made with few moves.
+#[inline(never)]
 fn escaped_key(alloc: Global, word: &[u8]) -> Result<Key, RequestFault>
     ensures answers { Answers result (key_of word.now) }
     ensures key { IfOk result IsKey }
@@ -47,8 +49,8 @@ fn copied_key(alloc: Global, bytes: &[u8]) -> Result<Key, RequestFault>
     }
 }
 
-/// The value that a word stands for, copied once.
-pub(crate) fn read_value(alloc: Global, word: &[u8]) -> Result<Bytes, RequestFault>
+/// The value that a word stands for. Only one with escapes takes memory.
+pub(crate) fn read_value(alloc: Global, word: &[u8]) -> Result<Value<'_>, RequestFault>
     ensures answers { Answers result (value_of word.now) }
     ensures value { IfOk result IsValue }
 {
@@ -56,7 +58,7 @@ pub(crate) fn read_value(alloc: Global, word: &[u8]) -> Result<Bytes, RequestFau
     if bytes.as_slice().len() > 1024 {
         return Err(RequestFault::Fault(Fault::Value));
     }
-    Ok(Bytes::of(bytes.into_owned(alloc)?))
+    Ok(Value::of(bytes))
 }
 
 /// The end of a scan that a word stands for; `*` alone is the open one.

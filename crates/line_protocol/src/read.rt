@@ -12,8 +12,8 @@ use std::alloc::Global;
 
 /// The request of a line, or none for the empty one. A line with several faults has the first of
 /// them in the order of their numbers, and of two faulty keys the first. What is copied are keys and
-/// the value, once each.
-pub fn read_request(alloc: Global, line: &[u8]) -> Result<Option<Request>, RequestFault>
+/// the value where it has escapes, once each.
+pub fn read_request(alloc: Global, line: &[u8]) -> Result<Option<Request<'_>>, RequestFault>
     requires { length line.now ≤ 4096 }
     ensures answers { Answers result (request line.now) }
     ensures none { (result ≡ Ok None) ↔ (line.now ≡ []) }
@@ -26,7 +26,7 @@ pub fn read_request(alloc: Global, line: &[u8]) -> Result<Option<Request>, Reque
 }
 
 /// The request of the words of a line.
-fn read_words(alloc: Global, line: &[u8]) -> Result<Option<Request>, RequestFault>
+fn read_words(alloc: Global, line: &[u8]) -> Result<Option<Request<'_>>, RequestFault>
     ensures answers { Answers result (asked (words_of line.now)) }
     ensures asks { IfOk result AsksRequest }
 {
@@ -46,7 +46,7 @@ fn read_words(alloc: Global, line: &[u8]) -> Result<Option<Request>, RequestFaul
     }
 }
 
-fn read_put(alloc: Global, rest: Option<&[u8]>) -> Result<Option<Request>, RequestFault>
+fn read_put(alloc: Global, rest: Option<&[u8]>) -> Result<Option<Request<'_>>, RequestFault>
     ensures answers { Answers result (put (words_after (option_copied rest.entry))) }
     ensures asks { IfOk result AsksRequest }
 {
@@ -60,7 +60,7 @@ fn read_put(alloc: Global, rest: Option<&[u8]>) -> Result<Option<Request>, Reque
     }
 }
 
-fn read_get(alloc: Global, rest: Option<&[u8]>) -> Result<Option<Request>, RequestFault>
+fn read_get(alloc: Global, rest: Option<&[u8]>) -> Result<Option<Request<'_>>, RequestFault>
     ensures answers { Answers result (get (words_after (option_copied rest.entry))) }
     ensures asks { IfOk result AsksRequest }
 {
@@ -73,7 +73,7 @@ fn read_get(alloc: Global, rest: Option<&[u8]>) -> Result<Option<Request>, Reque
     }
 }
 
-fn read_del(alloc: Global, rest: Option<&[u8]>) -> Result<Option<Request>, RequestFault>
+fn read_del(alloc: Global, rest: Option<&[u8]>) -> Result<Option<Request<'_>>, RequestFault>
     ensures answers { Answers result (del (words_after (option_copied rest.entry))) }
     ensures asks { IfOk result AsksRequest }
 {
@@ -86,7 +86,7 @@ fn read_del(alloc: Global, rest: Option<&[u8]>) -> Result<Option<Request>, Reque
     }
 }
 
-fn read_scan(alloc: Global, rest: Option<&[u8]>) -> Result<Option<Request>, RequestFault>
+fn read_scan(alloc: Global, rest: Option<&[u8]>) -> Result<Option<Request<'_>>, RequestFault>
     ensures answers { Answers result (scan (words_after (option_copied rest.entry))) }
     ensures asks { IfOk result AsksRequest }
 {
@@ -101,7 +101,7 @@ fn read_scan(alloc: Global, rest: Option<&[u8]>) -> Result<Option<Request>, Requ
     }
 }
 
-fn read_quit(rest: Option<&[u8]>) -> Result<Option<Request>, RequestFault>
+fn read_quit(rest: Option<&[u8]>) -> Result<Option<Request<'_>>, RequestFault>
     ensures answers { Answers result (quit (words_after (option_copied rest.entry))) }
     ensures asks { IfOk result AsksRequest }
 {

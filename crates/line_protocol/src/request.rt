@@ -1,11 +1,12 @@
 //! A request.
-use key_bytes::{Bound, Bytes, Key};
+use crate::Value;
+use key_bytes::{Bound, Key};
 
-/// What a line asks for.
+/// What a line asks for. It lends the value of a put from the line.
 #[derive(Debug, Drop)]
-pub enum Request {
+pub enum Request<'a> {
     /// Sets the key's value.
-    Put(Key, Bytes),
+    Put(Key, Value<'a>),
     /// Asks for the key's value.
     Get(Key),
     /// Takes the key away.

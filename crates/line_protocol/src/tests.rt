@@ -35,7 +35,7 @@ fn push_end(out: &mut Vec<u8>, end: &Bound) -> Result<(), AllocError> {
 /// Writes what a line asks for, or the reply to its fault.
 fn describe(
     out: &mut Vec<u8>,
-    asked: Result<Option<Request>, RequestFault>,
+    asked: Result<Option<Request<'_>>, RequestFault>,
 ) -> Result<(), AllocError> {
     match asked {
         Ok(None) => out.extend_from_slice(b"nothing"),
