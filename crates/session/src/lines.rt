@@ -1,5 +1,5 @@
 //! Lines that are served.
-ghost use Rattle.std.specs.Prelude.{◌≡◌, ◌≤◌, ◌∷◌, [], length, map, IfOk, List, ℕ, false, Ok, Some};
+ghost use Rattle.std.specs.Prelude.{◌≡◌, ◌<◌, ◌≤◌, ◌∷◌, [], length, take, map, IfOk, List, ℕ, false, Ok, Some};
 ghost use Rattle.std.specs.Bool.{OnFalse};
 ghost use Rattle.line_protocol.specs.Requests.{IsRequest, request as asked_for, is_quit};
 ghost use Rattle.line_protocol.specs.Texts.{text};
@@ -38,7 +38,7 @@ pub(crate) fn serve_request<O: Ordered, K: Sink, P: Patience>(
 ) -> Result<(), Stop>
     requires { IsRequest request }
     ensures served { Serves O.stands O.lane O.sole O.fits O.refusals O.last (P.limit patience.old) store.old store.new
-        (λ asked. asked ≡ Ok (Some request) ∷ []) (Gained result (K.written sink.old) (K.written sink.new)) }
+        (λ asked. asked ≡ Ok (Some request.entry) ∷ []) (Gained result (K.written sink.old) (K.written sink.new)) }
     ensures kept { (O.lane store.new ≡ O.lane store.old) × (O.sole store.new ≡ O.sole store.old)
         × (O.origin store.new ≡ O.origin store.old) × (P.limit patience.new ≡ P.limit patience.old) }
     ensures fits { (history : List Entry) → O.fits store.old history → O.fits store.new history }
@@ -128,8 +128,59 @@ pub(crate) fn serve_told<O: Ordered, K: Sink, P: Patience>(
     }
 }
 
+// Serves the line that a piece begins with, or has the reader take the piece where no line ends in it. Says how
+// many bytes of the piece that took, and whether the line was the last one.
+fn serve_next<O: Ordered, K: Sink, P: Patience>(
+    alloc: Global,
+    store: &mut O,
+    sink: &mut K,
+    patience: &mut P,
+    buffers: &mut Buffers,
+    lines: &mut Lines,
+    piece: &[u8],
+) -> (usize, Result<bool, Stop>)
+    requires held { (part : List ℕ) × Holds lines.old part }
+    requires some { 0 < length piece.now }
+    ensures used { (0 < result.0) × (result.0 ≤ length piece.now) }
+    ensures served { (part : List ℕ) → Holds lines.old part →
+        Serves O.stands O.lane O.sole O.fits O.refusals O.last (P.limit patience.old) store.old store.new
+        (Reaches result.1 (upto_quit (asked_by_all (told_lines part (take result.0 piece.now)))))
+        (Gained result.1 (K.written sink.old) (K.written sink.new)) }
+    ensures quit { (part : List ℕ) → Holds lines.old part →
+        IfOk result.1 (λ quit. quit ≡ has_quit (asked_by_all (told_lines part (take result.0 piece.now)))) }
+    ensures held { (part : List ℕ) → Holds lines.old part →
+        Holds lines.new (open_part part (take result.0 piece.now)) }
+    ensures kept { (O.lane store.new ≡ O.lane store.old) × (O.sole store.new ≡ O.sole store.old)
+        × (O.origin store.new ≡ O.origin store.old) × (P.limit patience.new ≡ P.limit patience.old) }
+    ensures fits { (history : List Entry) → O.fits store.old history → O.fits store.new history }
+    ensures cause { FaultsCounted (K.faults sink.old) (K.faults sink.new) result.1 }
+{
+    match lines.whole(piece) {
+        Some(whole) => (
+            whole.used,
+            serve_line(alloc, store, sink, patience, buffers, whole.line),
+        ),
+        None => {
+            let taken = lines.take(piece);
+            let last = serve_told(
+                alloc,
+                store,
+                sink,
+                patience,
+                buffers,
+                taken.event,
+                lines.line(),
+            );
+            (taken.used, last)
+        }
+    }
+}
+
 /// Serves the lines that end in a piece of input, up to and with the last one of the session. Says whether
 /// that came. The reader keeps the start of the next line.
+///
+/// A line that lies whole in the piece is served from there. Only one that began in an earlier piece, or that has
+/// more than 4,096 bytes, is copied into the reader's buffer, and so is the start of the next line.
 pub(crate) fn serve_piece<O: Ordered, K: Sink, P: Patience>(
     alloc: Global,
     store: &mut O,
@@ -155,17 +206,9 @@ pub(crate) fn serve_piece<O: Ordered, K: Sink, P: Patience>(
 {
     let mut at = 0;
     'told: while at < piece.len() {
-        let taken = lines.take(&piece[at..]);
-        at += taken.used;
-        match serve_told(
-            alloc,
-            store,
-            sink,
-            patience,
-            buffers,
-            taken.event,
-            lines.line(),
-        ) {
+        let (used, last) = serve_next(alloc, store, sink, patience, buffers, lines, &piece[at..]);
+        at += used;
+        match last {
             Ok(true) => return Ok(true),
             Ok(false) => {}
             Err(stop) => return Err(stop),

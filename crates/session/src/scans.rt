@@ -24,7 +24,8 @@ fn is_over(more: bool, left: usize) -> bool
 }
 
 /// Serves a scan of at most so many pairs, and writes its lines: those of a part before the next one is
-/// asked for.
+/// asked for. It stays a call, so that a line which asks for one pair sets up nothing of it.
+#[inline(never)]
 pub(crate) fn serve_scan<O: Ordered, K: Sink, P: Patience>(
     store: &mut O,
     sink: &mut K,

@@ -1,13 +1,13 @@
 use Rattle.std.proofs.Common.{◌≡◌, ◌+◌, ◌-◌, ◌++◌, List, ℕ, length, take, drop, true, false, refl, sym, ap, ◌∙◌, subst, arith, take-append-drop}
 use Rattle.std.proofs.lemmas.List.{take_rest, length-drop, take_all}
 use mathlib.Core.List.{IsPrefix}
-use Rattle.line_reader.specs.Cut.{open_part, ended_lines}
+use Rattle.line_reader.specs.Cut.{open_part}
 use Rattle.line_protocol.specs.Requests.{Asked}
-use Rattle.line_reader.specs.Told.{Holds, told, told_lines}
+use Rattle.line_reader.specs.Told.{Holds, told_lines}
 use Rattle.line_reader.proofs.Cutting.{told_lines-append, told_more, open_more}
 use Rattle.outside.proofs.Pieces.{wrote_none, wrote_more}
 use Rattle.session.specs.Asked.{asked_by_all, has_quit, upto_quit}
-use Rattle.session.proofs.AskedLists.{upto_none, upto_told, more_quit, more_asked, more_begun, longer_asked, longer_quit, longer_begun}
+use Rattle.session.proofs.AskedLists.{upto_none, more_quit, more_asked, more_begun, longer_asked, longer_quit, longer_begun}
 use Rattle.session.proofs.Gaining.{some_behind}
 use Rattle.session.proofs.Joining.{transcribes_none, transcribes_told, transcribes_then}
 use Rattle.session.proofs.lines.serve_piece.Goals as goal
@@ -40,41 +40,32 @@ told-init g c = record {
   transcript = λ part holds. transcribes_none _ _ _ _ _ _ _ _ _ (λ old history. g.met.O.Ordered.stands_legal _ old history) refl (wrote_none _);
 }
 
-pub serve_told-requires : goal.serve_told-requires
-serve_told-requires g c =
-    let at = c.told.at in
-    let part = open_part c.requires.0 (take at c.args.piece.now) in
-    let slice = take (length c.args.piece.now - at) (drop at c.args.piece.now) in
-    (ended_lines part (take c.take-taken.result.used slice), sym (ap (told c.take-taken.result.event) c.line.ensures ∙ c.take-taken.ensures.told part (c.told.invariant.held c.requires.0 c.requires.1)))
-
 pub told-preserved : goal.told-preserved
 told-preserved g c =
     let now = c.told.invariant in
     let at = c.told.at in
     let piece = c.args.piece.now in
-    let taken = c.take-taken.result in
+    let next = c.serve_next-used in
+    let used = next.result.0 in
     let slice = take (length piece - at) (drop at piece) in
     let rest = take_rest piece at in
-    let line = c.line.result.now in
-    let done = c.in-Ok-false.ensures in
-    let path : (part : List ℕ) → Holds c.args.lines.now part → told taken.event line ≡ told_lines (open_part part (take at piece)) (take taken.used slice) =
-    λ part holds. ap (told taken.event) c.line.ensures ∙ c.take-taken.ensures.told (open_part part (take at piece)) (now.held part holds) in
-    let is : (part : List ℕ) → Holds c.args.lines.now part → told_lines part (take (at + taken.used) piece) ≡ told_lines part (take at piece) ++ told taken.event line =
-    λ part holds. told_more part piece slice at taken.used rest ∙ ap (λ w. told_lines part (take at piece) ++ w) (sym (path part holds)) in
-    let going : (part : List ℕ) → Holds c.args.lines.now part → has_quit (asked_by_all (told_lines part (take (at + taken.used) piece))) ≡ false =
-    λ part holds. more_quit (told_lines part (take at piece)) (told taken.event line) _ (is part holds) (now.going part holds) ∙ (sym done.quit ∙ c.in-Ok-false.field-0-test) in record {
-      within = omega (arith, c.take-taken.ensures.used, ap length rest, length-drop at piece);
-      held = λ part holds. subst (Holds c.take-taken.new.self) (sym (open_more part piece slice at taken.used rest)) (c.take-taken.ensures.held (open_part part (take at piece)) (now.held part holds));
+    let going : (part : List ℕ) → Holds c.args.lines.now part → has_quit (asked_by_all (told_lines part (take (at + used) piece))) ≡ false =
+    λ part holds.
+    let quit = rw c.in-Ok-false.is at (next.ensures.quit (open_part part (take at piece)) (now.held part holds)) in
+    more_quit (told_lines part (take at piece)) (told_lines (open_part part (take at piece)) (take used slice)) _ (told_more part piece slice at used rest) (now.going part holds) ∙ (sym quit ∙ c.in-Ok-false.field-0-test) in
+    let counted = rw c.in-Ok-false.is at next.ensures.cause in record {
+      within = omega (arith, next.ensures.used.1, ap length rest, length-drop at piece);
+      held = λ part holds. subst (Holds next.new.lines) (sym (open_more part piece slice at used rest)) (next.ensures.held (open_part part (take at piece)) (now.held part holds));
       going = going;
-      lane = done.kept.0 ∙ now.lane;
-      sole = done.kept.1 ∙ now.sole;
-      origin = done.kept.2 ∙ now.origin;
-      limit = done.kept.3 ∙ now.limit;
-      fits = λ history fit. done.fits history (now.fits history fit);
-      faults = omega (arith, now.faults, done.cause);
+      lane = next.ensures.kept.0 ∙ now.lane;
+      sole = next.ensures.kept.1 ∙ now.sole;
+      origin = next.ensures.kept.2 ∙ now.origin;
+      limit = next.ensures.kept.3 ∙ now.limit;
+      fits = λ history fit. next.ensures.fits history (now.fits history fit);
+      faults = omega (arith, now.faults, counted);
       transcript = λ part holds. transcribes_then _ _ _ _ _ _ _ _ _ _ _ _ _ _ _ _ _ _ _ _ now.fits
-          (λ xs ys p q. more_asked (told_lines part (take at piece)) (told taken.event line) _ (is part holds) (now.going part holds) xs ys p (q ∙ sym (upto_told taken.event line)) ∙ upto_none _ (going part holds))
-          (λ xs ys p q. wrote_more _ _ _ xs ys p q) (now.transcript part holds) (rw (now.lane, now.sole, now.limit) at done.served);
+          (λ xs ys p q. more_asked (told_lines part (take at piece)) (told_lines (open_part part (take at piece)) (take used slice)) _ (told_more part piece slice at used rest) (now.going part holds) xs ys p q ∙ upto_none _ (going part holds))
+          (λ xs ys p q. wrote_more _ _ _ xs ys p q) (now.transcript part holds) (rw (now.lane, now.sole, now.limit, c.in-Ok-false.is) at (next.ensures.served (open_part part (take at piece)) (now.held part holds)));
     }
 
 pub returns-in-Ok-true-clause-served : goal.returns-in-Ok-true-clause-served
@@ -82,45 +73,49 @@ returns-in-Ok-true-clause-served g c = λ part holds.
     let now = c.told.invariant in
     let at = c.told.at in
     let piece = c.args.piece.now in
-    let taken = c.take-taken.result in
+    let next = c.serve_next-used in
+    let used = next.result.0 in
     let slice = take (length piece - at) (drop at piece) in
-    let line = c.line.result.now in
-    let path = ap (told taken.event) c.line.ensures ∙ c.take-taken.ensures.told (open_part part (take at piece)) (now.held part holds) in
-    let is = told_more part piece slice at taken.used (take_rest piece at) ∙ ap (λ w. told_lines part (take at piece) ++ w) (sym path) in
-    let quit : has_quit (asked_by_all (told_lines part (take (at + taken.used) piece))) ≡ true =
-    more_quit (told_lines part (take at piece)) (told taken.event line) _ is (now.going part holds) ∙ (sym c.in-Ok-true.ensures.quit ∙ c.in-Ok-true.field-0-test) in
+    let front = told_lines part (take at piece) in
+    let back = told_lines (open_part part (take at piece)) (take used slice) in
+    let is = told_more part piece slice at used (take_rest piece at) in
+    let last = rw c.in-Ok-true.is at (next.ensures.quit (open_part part (take at piece)) (now.held part holds)) in
+    let quit : has_quit (asked_by_all (told_lines part (take (at + used) piece))) ≡ true =
+    more_quit front back _ is (now.going part holds) ∙ (sym last ∙ c.in-Ok-true.field-0-test) in
     transcribes_then _ _ _ _ _ _ _ _ _ _ _ _ _ _ _ _ _ _ _ _ now.fits
-    (λ xs ys p q. more_asked (told_lines part (take at piece)) (told taken.event line) _ is (now.going part holds) xs ys p (q ∙ sym (upto_told taken.event line)) ∙ all_asked part piece (at + taken.used) quit)
-    (λ xs ys p q. wrote_more _ _ _ xs ys p q) (now.transcript part holds) (rw (now.lane, now.sole, now.limit) at c.in-Ok-true.ensures.served)
+    (λ xs ys p q. more_asked front back _ is (now.going part holds) xs ys p q ∙ all_asked part piece (at + used) quit)
+    (λ xs ys p q. wrote_more _ _ _ xs ys p q) (now.transcript part holds) (rw (now.lane, now.sole, now.limit, c.in-Ok-true.is) at (next.ensures.served (open_part part (take at piece)) (now.held part holds)))
 
 pub returns-in-Ok-true-clause-quit : goal.returns-in-Ok-true-clause-quit
 returns-in-Ok-true-clause-quit g c = λ part holds.
     let now = c.told.invariant in
     let at = c.told.at in
     let piece = c.args.piece.now in
-    let taken = c.take-taken.result in
+    let next = c.serve_next-used in
+    let used = next.result.0 in
     let slice = take (length piece - at) (drop at piece) in
-    let line = c.line.result.now in
-    let path = ap (told taken.event) c.line.ensures ∙ c.take-taken.ensures.told (open_part part (take at piece)) (now.held part holds) in
-    let is = told_more part piece slice at taken.used (take_rest piece at) ∙ ap (λ w. told_lines part (take at piece) ++ w) (sym path) in
-    let quit : has_quit (asked_by_all (told_lines part (take (at + taken.used) piece))) ≡ true =
-    more_quit (told_lines part (take at piece)) (told taken.event line) _ is (now.going part holds) ∙ (sym c.in-Ok-true.ensures.quit ∙ c.in-Ok-true.field-0-test) in
-    sym (all_quit part piece (at + taken.used) quit)
+    let front = told_lines part (take at piece) in
+    let back = told_lines (open_part part (take at piece)) (take used slice) in
+    let is = told_more part piece slice at used (take_rest piece at) in
+    let last = rw c.in-Ok-true.is at (next.ensures.quit (open_part part (take at piece)) (now.held part holds)) in
+    let quit : has_quit (asked_by_all (told_lines part (take (at + used) piece))) ≡ true =
+    more_quit front back _ is (now.going part holds) ∙ (sym last ∙ c.in-Ok-true.field-0-test) in
+    sym (all_quit part piece (at + used) quit)
 
 pub returns-in-Err-clause-served : goal.returns-in-Err-clause-served
 returns-in-Err-clause-served g c = λ part holds.
     let now = c.told.invariant in
     let at = c.told.at in
     let piece = c.args.piece.now in
-    let taken = c.take-taken.result in
+    let next = c.serve_next-used in
+    let used = next.result.0 in
     let slice = take (length piece - at) (drop at piece) in
-    let line = c.line.result.now in
-    let path = ap (told taken.event) c.line.ensures ∙ c.take-taken.ensures.told (open_part part (take at piece)) (now.held part holds) in
-    let is = told_more part piece slice at taken.used (take_rest piece at) ∙ ap (λ w. told_lines part (take at piece) ++ w) (sym path) in
+    let front = told_lines part (take at piece) in
+    let back = told_lines (open_part part (take at piece)) (take used slice) in
+    let is = told_more part piece slice at used (take_rest piece at) in
     transcribes_then _ _ _ _ _ _ _ _ _ _ _ _ _ _ _ _ _ _ _ _ now.fits
-    (λ xs ys p q. all_begun part piece (at + taken.used) (xs ++ ys)
-    (more_begun (told_lines part (take at piece)) (told taken.event line) _ is (now.going part holds) xs ys p (subst (IsPrefix ys) (sym (upto_told taken.event line)) q)))
-    (λ xs ys p q. some_behind _ _ _ xs ys p q) (now.transcript part holds) (rw (now.lane, now.sole, now.limit) at c.in-Err.ensures.served)
+    (λ xs ys p q. all_begun part piece (at + used) (xs ++ ys) (more_begun front back _ is (now.going part holds) xs ys p q))
+    (λ xs ys p q. some_behind _ _ _ xs ys p q) (now.transcript part holds) (rw (now.lane, now.sole, now.limit, c.in-Err.is) at (next.ensures.served (open_part part (take at piece)) (now.held part holds)))
 
 pub returns-clause-served : goal.returns-clause-served
 returns-clause-served g c = λ part holds.
