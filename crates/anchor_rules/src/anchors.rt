@@ -1,5 +1,5 @@
 //! Anchors with their leaves.
-ghost use Rattle.std.specs.Prelude.{ℕ, ◌≡◌, ◌+◌, ◌<◌, [], ◌∷◌, Some, true, length, drop, is_some, IfSome, IfOk, OnOk, OnErr};
+ghost use Rattle.std.specs.Prelude.{ℕ, ◌≡◌, ◌+◌, ◌<◌, [], ◌∷◌, Some, true, length, drop, remove, is_some, IfSome, IfOk, OnOk, OnErr};
 ghost use Rattle.std.specs.Option.{option_copied};
 ghost use Rattle.anchor_rules.specs.Anchors as anchors;
 ghost use Rattle.anchor_rules.specs.Anchors.{AreAnchors, AreShort, Span, anchor_at, leaf_at, has_leaf, in_span};
@@ -35,7 +35,7 @@ impl Anchors {
         ensures { IfOk result (λ a. a ≡ ([], leaf) ∷ []) }
     {
         let mut rows = Vec::new(alloc);
-        rows.push((Bytes::of(Vec::new(alloc)), leaf))?;
+        rows.push((Bytes::of(alloc, &[])?, leaf))?;
         Ok(Anchors { rows })
     }
 
@@ -119,8 +119,9 @@ impl Anchors {
         prove!(anchor.bytes().len() < 256);
         match place_of(&self.rows, leaf) {
             Some(i) => {
-                let row = (Bytes::of(anchor.into_bytes()), new_leaf);
-                self.rows.insert(i + 1, row)?;
+                let alloc = *self.rows.allocator();
+                let copied = Bytes::of(alloc, anchor.bytes())?;
+                self.rows.insert(i + 1, (copied, new_leaf))?;
             }
             None => unreachable!(),
         }
@@ -141,7 +142,7 @@ impl Anchors {
     {
         match place_of(&self.rows, left) {
             Some(i) => {
-                self.rows.remove(i + 1);
+                take_row(&mut self.rows, i + 1);
             }
             None => unreachable!(),
         }
@@ -158,6 +159,14 @@ impl Anchors {
             None => false,
         }
     }
+}
+
+// Takes a row out.
+fn take_row(rows: &mut Vec<(Bytes, u32)>, i: usize)
+    requires { i < length rows.old.items }
+    ensures items { rows.new.items ≡ remove rows.old.items i }
+{
+    rows.remove(i);
 }
 
 // The place of a leaf.
