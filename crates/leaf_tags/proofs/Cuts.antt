@@ -6,7 +6,7 @@ use Rattle.std.proofs.lemmas.Bool.{cases_lt}
 use Rattle.std.proofs.lemmas.List.{get_or_default, drop_more, set_split}
 use Rattle.std.proofs.lemmas.List.Sorted.{IsPermutation-sym, IsPermutation-cons, IsPermutation-trans, IsPermutation-middle, IsPermutation-swap}
 use Rattle.std.proofs.lemmas.List.Edits.{get_or-remove_below, get_or-remove_above, length-remove}
-use Rattle.leaf_tags.specs.Tags.{IsByTag}
+use Rattle.leaf_tags.specs.Tags.{IsByTag, IsTagList}
 
 module _ (xs : List (ℕ × ℕ)) (up : IsByTag xs) where
   pub upper_from : (i : ℕ) (x : ℕ × ℕ) (tag : ℕ) → x ≡ get_or xs i x → tag ≤ x.0 → (k : ℕ) (d : ℕ × ℕ) → i ≤ k → k < length xs → tag ≤ (get_or xs k d).0
@@ -63,6 +63,12 @@ module _ (xs : List (ℕ × ℕ)) (up : IsByTag xs) where
       let less : (get_or xs k d).0 < tag = lower_from i x tag in_range read low k d lt in
       let top : (get_or xs k d).0 ≡ tag = ap (λ (p : ℕ × ℕ). p.0) is in
       omega arith
+
+pub remove_keeps : (xs : List (ℕ × ℕ)) → IsTagList xs → (i : ℕ) → i < length xs → IsTagList (remove xs i)
+remove_keeps xs is i lt = record {
+  rises = remove_rises xs is.rises i lt;
+  few = omega (arith, is.few, length-remove xs i lt);
+}
 
 -- a list with one pair in place of another, and each with the other's pair beside it
 pub exchanged : (xs : List (ℕ × ℕ)) (i : ℕ) (x y : ℕ × ℕ) → i < length xs → get_or xs i x ≡ x → IsPermutation (y ∷ xs) (x ∷ set xs i y)

@@ -1,10 +1,14 @@
--- The pairs whose places are from a number on.
+-- The pairs whose places are from a number on, and the others.
 use Rattle.std.proofs.Common.{◌≡◌, ℕ, ◌+◌, ◌-◌, ◌<◌, ◌≤◌, List, [], ◌∷◌, ◌++◌, Bool, true, false, cond, not, nat_lt, length, get_or, take, drop, map, take-append-drop, length-append, sym, ap, ◌∙◌, arith}
 use Rattle.std.specs.Prelude.{filter}
 use Rattle.std.proofs.lemmas.List.{append-nil, length-map, get_or-map, map-append, take_more}
 use Rattle.std.proofs.lemmas.List.Elements.{filter-append}
 use Rattle.std.proofs.lemmas.List.Kept.{IsNonDecreasingBy-filter}
-use Rattle.leaf_tags.specs.Tags.{IsByTag, places_from}
+use Rattle.std.proofs.lemmas.List.Sums.{length-filter, count_by-le-length}
+use Rattle.leaf_tags.specs.Tags.{IsByTag, IsTagList, places_below, places_from}
+
+kept_few : (test : ℕ × ℕ → Bool) (xs : List (ℕ × ℕ)) → length xs ≤ 65536 → length (filter test xs) ≤ 65536
+kept_few test xs few = omega (arith, length-filter test xs, count_by-le-length test xs)
 
 module _ (count : ℕ) where
   is_from : ℕ × ℕ → Bool
@@ -14,7 +18,7 @@ module _ (count : ℕ) where
   less p = (p.0, p.1 - count)
 
   -- their tags ascend as before
-  pub from_rises : (xs : List (ℕ × ℕ)) → IsByTag xs → IsByTag (places_from count xs)
+  from_rises : (xs : List (ℕ × ℕ)) → IsByTag xs → IsByTag (places_from count xs)
   unfolding is_from less
   from_rises xs up i j d le lt =
       let kept : List (ℕ × ℕ) = filter is_from xs in
@@ -24,6 +28,19 @@ module _ (count : ℕ) where
       let b : (get_or (map less kept) j d).0 ≡ (get_or kept j d).0 = ap (λ (p : ℕ × ℕ). p.0) (get_or-map less kept j d d (omega arith)) in
       let rise : (get_or kept i d).0 ≤ (get_or kept j d).0 = up' i j d le (omega arith) in
       omega arith
+
+  pub from_keeps : (xs : List (ℕ × ℕ)) → IsTagList xs → IsTagList (places_from count xs)
+  unfolding is_from less
+  from_keeps xs is = record {
+    rises = from_rises xs is.rises;
+    few = omega (arith, length-map (filter is_from xs) less, kept_few is_from xs is.few);
+  }
+
+  pub below_keeps : (xs : List (ℕ × ℕ)) → IsTagList xs → IsTagList (places_below count xs)
+  below_keeps xs is = record {
+    rises = IsNonDecreasingBy-filter (λ (p : ℕ × ℕ). p.0) (λ (p : ℕ × ℕ). nat_lt p.1 count) xs is.rises;
+    few = kept_few (λ (p : ℕ × ℕ). nat_lt p.1 count) xs is.few;
+  }
 
   from_append : (xs ys : List (ℕ × ℕ)) → places_from count (xs ++ ys) ≡ places_from count xs ++ places_from count ys
   unfolding is_from less

@@ -2,29 +2,29 @@
 ghost use Rattle.std.specs.Prelude.{◌≡◌, ℕ, ◌+◌, ◌<◌, ◌≤◌, ◌⊎◌, List, ◌∷◌, [], true, false, length, slice_index_or, MatchOption, OnOk, IsOk, Some};
 ghost use Rattle.std.specs.List.{Contains};
 ghost use Rattle.std.specs.List.Sorted.{IsPermutation};
-ghost use Rattle.leaf_tags.specs.Tags.{first_place, places_below, places_from, IsByTag, IsCut};
+ghost use Rattle.leaf_tags.specs.Tags.{first_place, places_below, places_from, renumbered, IsByTag, IsCut};
 
 use std::alloc::{AllocError, Global};
 use std::marker::Model;
 
 /// Pairs of a tag and a place, in ascending order of their tags.
 ///
-/// Pairs of one tag stand beside each other in no particular order. A pair takes 16 bytes, all in
-/// one block of memory.
+/// Pairs of one tag stand beside each other in no particular order. A pair takes 4 bytes, all in
+/// one block of memory; there are at most 65,536.
 #[derive(Drop)]
 pub struct Tags {
-    pairs: Vec<(u16, usize)>,
+    pairs: Vec<(u16, u16)>,
 }
 
 impl Model for Tags {
-    ghost use Rattle.std.specs.Prelude.{ℕ, ◌-◌, length, vec_capacity};
-    ghost use Rattle.leaf_tags.specs.Tags.{TagList, IsByTag};
+    ghost use Rattle.std.specs.Prelude.{ℕ, ◌-◌, length, min, vec_capacity};
+    ghost use Rattle.leaf_tags.specs.Tags.{TagList, IsTagList};
 
     ghost Value = { TagList };
 
-    ghost view = { λ t. record { pairs = t.pairs.items; spare = vec_capacity t.pairs - length t.pairs.items } };
+    ghost view = { λ t. record { pairs = t.pairs.items; spare = min (vec_capacity t.pairs) 65536 - length t.pairs.items } };
 
-    ghost invariant = { λ t. IsByTag t.pairs.items };
+    ghost invariant = { λ t. IsTagList t.pairs.items };
 }
 
 // Where a tag would stand among `count` tags that are spread evenly over all 65,536.
@@ -49,6 +49,9 @@ impl Tags {
     pub fn len(&self) -> usize
         ensures len { result ≡ length self.now.pairs }
         ensures ascending { IsByTag self.now.pairs }
+
+        // With those for which there is room they are at most 65,536.
+        ensures few { result + self.now.spare ≤ 65536 }
     {
         self.pairs.len()
     }
@@ -83,8 +86,8 @@ impl Tags {
         let mut at = start;
         'onward: while at < self.pairs.len() && self.pairs[at].0 <= tag {
             let (found, place) = self.pairs[at];
-            if found == tag && eq(place) {
-                return Some(place);
+            if found == tag && eq(usize::from(place)) {
+                return Some(usize::from(place));
             }
             at += 1;
         }
@@ -101,8 +104,8 @@ impl Tags {
         'back: while at > 0 && self.pairs[at - 1].0 >= tag {
             at -= 1;
             let (found, place) = self.pairs[at];
-            if found == tag && eq(place) {
-                return Some(place);
+            if found == tag && eq(usize::from(place)) {
+                return Some(usize::from(place));
             }
         }
         None
@@ -118,24 +121,28 @@ impl Tags {
         self.reserve_many(1)
     }
 
-    /// Makes room for `count` more pairs.
+    /// Makes room for `count` more pairs. There is none for more than 65,536 in all.
     pub fn reserve_many(&mut self, count: usize) -> Result<(), AllocError>
         ensures pairs { self.new.pairs ≡ self.old.pairs }
         ensures room { OnOk result (count ≤ self.new.spare) }
         ensures kept { self.old.spare ≤ self.new.spare }
         ensures succeeds { count ≤ self.old.spare → IsOk result }
     {
+        if count > 65_536 - self.pairs.len() {
+            return Err(AllocError);
+        }
         self.pairs.reserve(count)
     }
 
     /// Adds a pair, at the cost of a move of all that stand behind it.
     pub fn add(&mut self, tag: u16, place: usize)
-        requires { 1 ≤ self.old.spare }
+        requires room { 1 ≤ self.old.spare }
+        requires fits { place < 65536 }
         ensures pairs { IsPermutation ((tag, place) ∷ self.old.pairs) self.new.pairs }
         ensures spare { self.old.spare ≤ self.new.spare + 1 }
     {
         let at = self.start_of(tag);
-        let _ = self.pairs.insert(at, (tag, place));
+        let _ = self.pairs.insert(at, (tag, place as u16));
     }
 
     /// Takes a pair out, at the cost of a move of all that stand behind it.
@@ -150,14 +157,15 @@ impl Tags {
 
     /// Gives the pair of a tag and the place `before` the place `after`. No other pair moves.
     pub fn moved(&mut self, tag: u16, before: usize, after: usize)
-        requires { Contains self.old.pairs (tag, before) }
+        requires there { Contains self.old.pairs (tag, before) }
+        requires fits { after < 65536 }
 
         // With the other of the two pairs, both lists have the same pairs.
         ensures pairs { IsPermutation ((tag, after) ∷ self.old.pairs) ((tag, before) ∷ self.new.pairs) }
         ensures spare { self.new.spare ≡ self.old.spare }
     {
         let at = self.index_of(tag, before);
-        self.pairs[at] = (tag, after);
+        self.pairs[at] = (tag, after as u16);
     }
 
     /// Takes all pairs out, and keeps their memory as room.
@@ -174,7 +182,7 @@ impl Tags {
         ensures spare { self.new.spare + length self.new.pairs ≡ self.old.spare + length self.old.pairs }
         ensures kept { self.old.spare ≤ self.new.spare }
     {
-        self.pairs.retain(|pair| pair.1 < count);
+        self.pairs.retain(|pair| usize::from(pair.1) < count);
     }
 
     /// Moves the pairs whose place isn't below `count` into `right`, which has none, each with its
@@ -190,24 +198,45 @@ impl Tags {
     {
         for at in 0..self.pairs.len() {
             let (tag, place) = self.pairs[at];
-            if place >= count {
-                right.pairs.push_reserved((tag, place - count));
+            if usize::from(place) >= count {
+                right.pairs.push_reserved((tag, place - count as u16));
             }
         }
         self.truncate(count);
+    }
+
+    /// Gives the pair with the place `p` the place `places[p]`, for each pair. No pair moves, so it
+    /// takes one step for each.
+    pub fn renumber(&mut self, places: &[u16])
+        requires { (tag place : ℕ) → Contains self.old.pairs (tag, place) → place < length places.now }
+        ensures pairs { self.new.pairs ≡ renumbered places.now self.old.pairs }
+        ensures spare { self.new.spare ≡ self.old.spare }
+    {
+        for pair in self.pairs.iter_mut() {
+            pair.1 = places[usize::from(pair.1)];
+        }
     }
 
     // Where the pairs begin whose tag isn't below this one, sought from the tag's first place.
     fn start_of(&self, tag: u16) -> usize
         ensures { IsCut self.now.pairs tag result }
     {
-        let count = self.pairs.len();
-        let mut at = first_place(tag, count);
-        'up: while at < count && self.pairs[at].0 < tag {
-            at += 1;
-        }
+        let mut at = self.past_lower(first_place(tag, self.pairs.len()), tag);
         'down: while at > 0 && self.pairs[at - 1].0 >= tag {
             at -= 1;
+        }
+        at
+    }
+
+    // The next index from `start` on whose pair has no lower tag.
+    fn past_lower(&self, start: usize, tag: u16) -> usize
+        requires { start ≤ length self.now.pairs }
+        ensures in_range { result ≤ length self.now.pairs }
+        ensures upper { (k : ℕ) (d : ℕ × ℕ) → result ≤ k → k < length self.now.pairs → tag ≤ (slice_index_or self.now.pairs k d).0 }
+    {
+        let mut at = start;
+        'up: while at < self.pairs.len() && self.pairs[at].0 < tag {
+            at += 1;
         }
         at
     }
@@ -219,7 +248,7 @@ impl Tags {
         ensures pair { (d : ℕ × ℕ) → slice_index_or self.now.pairs result d ≡ (tag, place) }
     {
         let mut at = self.start_of(tag);
-        'seek: while self.pairs[at].1 != place {
+        'seek: while usize::from(self.pairs[at].1) != place {
             at += 1;
         }
         at
@@ -243,10 +272,22 @@ mod tests {
         tags.add(44_899, 13);
         assert_eq!(rt; tags.len(), 4);
         assert_eq!(rt; first_place(44_899, 4), 2);
-        let third = tags.pairs.get(2).map(|pair| pair.1);
+        let third = tags.pairs.get(2).map(|pair| usize::from(pair.1));
         assert_eq!(rt; tags.find(44_899, |_| true), third);
         assert_eq!(rt; tags.find(44_899, |place| place == 10), Some(10));
         assert_eq!(rt; tags.find(44_898, |_| true), None);
+        Ok(())
+    }
+
+    #[test]
+    fn each_pair_gets_the_place_at_its_own(rt: HostRuntime) -> Result<(), Fail> {
+        let mut tags = Tags::new(rt.alloc());
+        tags.reserve_many(2)?;
+        tags.add(7, 0);
+        tags.add(40_000, 1);
+        tags.renumber(&[5, 3]);
+        assert_eq!(rt; tags.find(7, |_| true), Some(5));
+        assert_eq!(rt; tags.find(40_000, |_| true), Some(3));
         Ok(())
     }
 }

@@ -11,6 +11,6 @@ returns-else-index-tag g c = λ k place d before is.
     let size : c.args.start ≤ length xs = subst (λ (v : TagList). c.args.start ≤ length v.pairs) (sym c.self.view_is) c.requires.in_range in
     let until = c.back.invariant.until in
     elim (cases_lt k c.back.at) [
-      | inl lower ↦ absurd (none_before xs c.self.invariant (c.back.at - 1) c.index.result.now c.args.tag place (omega (arith, c.back-test.true)) c.index.ensures (omega (arith, c.if-index-tag.false)) k d (omega arith) here)
+      | inl lower ↦ absurd (none_before xs c.self.invariant.rises (c.back.at - 1) c.index.result.now c.args.tag place (omega (arith, c.back-test.true)) c.index.ensures (omega (arith, c.if-index-tag.false)) k d (omega arith) here)
       | inr from ↦ c.back.invariant.passed k place d from before here
     ]

@@ -11,5 +11,5 @@ returns-else-index-tag-clause-found g c = λ k place d from lt is.
     let in_range : k < length xs = subst (λ (v : TagList). k < length v.pairs) (sym c.self.view_is) lt in
     elim (cases_lt k c.onward.at) [
       | inl before ↦ c.onward.invariant.passed k place d from before in_range here
-      | inr after ↦ absurd (none_after xs c.self.invariant c.onward.at c.index.result.now c.args.tag place c.index.ensures (omega (arith, c.if-index-tag.false)) k d after in_range here)
+      | inr after ↦ absurd (none_after xs c.self.invariant.rises c.onward.at c.index.result.now c.args.tag place c.index.ensures (omega (arith, c.if-index-tag.false)) k d after in_range here)
     ]

@@ -1,13 +1,13 @@
 use Rattle.std.proofs.Common.{ℕ, ◌<◌, ◌∷◌, length, subst, sym, ap, ◌∙◌}
 use Rattle.std.specs.List.{remove}
-use Rattle.std.specs.List.Sorted.{IsNonDecreasingBy, IsPermutation}
+use Rattle.std.specs.List.Sorted.{IsPermutation}
 use Rattle.std.proofs.lemmas.List.Sorted.{IsPermutation-remove}
-use Rattle.leaf_tags.specs.Tags.{TagList}
-use Rattle.leaf_tags.proofs.Cuts.{remove_rises}
+use Rattle.leaf_tags.specs.Tags.{TagList, IsTagList}
+use Rattle.leaf_tags.proofs.Cuts.{remove_keeps}
 use Rattle.leaf_tags.proofs.tags.Tags.remove.Goals as goal
 
 pub invariant_of-self : goal.invariant_of-self
-invariant_of-self c = subst (IsNonDecreasingBy (λ (p : ℕ × ℕ). p.0)) (sym c.remove.ensures.items) (remove_rises c.self.inside.pairs.items c.self.invariant c.index_of-at.result (subst (λ (v : TagList). c.index_of-at.result < length v.pairs) (sym c.self.view_is) c.index_of-at.ensures.in_range))
+invariant_of-self c = subst IsTagList (sym c.remove.ensures.items) (remove_keeps c.self.inside.pairs.items c.self.invariant c.index_of-at.result (subst (λ (v : TagList). c.index_of-at.result < length v.pairs) (sym c.self.view_is) c.index_of-at.ensures.in_range))
 
 pub returns-clause-pairs : goal.returns-clause-pairs
 returns-clause-pairs c =
