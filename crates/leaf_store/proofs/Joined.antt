@@ -1,16 +1,21 @@
 -- Two leaves with no key in both, as one.
-use Rattle.std.proofs.Common.{◌≡◌, ℕ, List, ◌++◌, false, None, sym, ◌∙◌, subst, inl, inr, ◌⊎◌, arith, length, take}
+use Rattle.std.proofs.Common.{◌≡◌, ℕ, List, ◌++◌, false, None, sym, ap, ◌∙◌, subst, inl, inr, ◌⊎◌, arith, length, take}
 use Rattle.std.proofs.Math.Seq.{take-append_seam}
 use Rattle.std.proofs.lemmas.List.Sorted.{IsPermutation-append}
 use Rattle.key_bytes.specs.Order.{is_same}
 use Rattle.map_model.specs.Maps.{Pairs, find, sorted}
 use Rattle.map_model.proofs.Finds.{find_sorted}
 use Rattle.leaf_store.specs.Rows.{bit, AreTags, AreOnce, IsLeaf}
+use Rattle.leaf_store.proofs.Settled.{length-tags}
 use Rattle.leaf_store.proofs.Unsorted.{total_append, many_none, sorted_permutation, sorted_same}
 
 -- lists in place of equal ones
 pub still_apart : {V : Type 0} (left right p q : Pairs V) → left ≡ p → right ≡ q → ((key : List ℕ) → (find p key ≡ None) ⊎ (find q key ≡ None)) → (key : List ℕ) → (find left key ≡ None) ⊎ (find right key ≡ None)
 still_apart left right p q e f apart key = subst (λ a. (find a key ≡ None) ⊎ (find right key ≡ None)) (sym e) (subst (λ b. (find p key ≡ None) ⊎ (find b key ≡ None)) (sym f) (apart key))
+
+-- before the tags of the right rows are added
+pub seam_tags : {V : Type 0} (left right : Pairs V) (salt : ℕ) (pairs : List (ℕ × ℕ)) → AreTags salt left pairs → AreTags salt (take (length pairs) (left ++ right)) pairs
+seam_tags left right salt pairs tags = subst (λ rows. AreTags salt rows pairs) (sym (ap (λ n. take n (left ++ right)) (length-tags salt left pairs tags) ∙ take-append_seam left right)) tags
 
 module _ {V : Type 0} (left right : Pairs V) (once : AreOnce left) (other : AreOnce right) (apart : (key : List ℕ) → (find (sorted left) key ≡ None) ⊎ (find (sorted right) key ≡ None)) where
   pub once_joined : AreOnce (left ++ right)
@@ -28,7 +33,3 @@ module _ {V : Type 0} (left right : Pairs V) (once : AreOnce left) (other : AreO
 
   pub joined_leaf : (salt : ℕ) (pairs : List (ℕ × ℕ)) → AreTags salt (left ++ right) pairs → IsLeaf salt (left ++ right) pairs false
   joined_leaf salt pairs tags = record { keys = once_joined; tags = tags; order = λ t. absurd (cc (t)) }
-
-  -- before the tags of the right rows are added
-  pub seam_tags : (salt : ℕ) (pairs : List (ℕ × ℕ)) → AreTags salt left pairs → AreTags salt (take (length left) (left ++ right)) pairs
-  seam_tags salt pairs tags = subst (λ rows. AreTags salt rows pairs) (sym (take-append_seam left right)) tags

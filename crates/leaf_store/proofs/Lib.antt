@@ -1,10 +1,12 @@
 pub mod Unsorted
 pub mod Places
 pub mod Tagged
+pub mod Numbered
 pub mod Changes
 pub mod Ascends
 pub mod Taken
 pub mod Settled
+pub mod Ranked
 pub mod Cuts
 pub mod Parted
 pub mod Halves

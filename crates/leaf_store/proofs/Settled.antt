@@ -6,9 +6,10 @@ use Rattle.std.proofs.lemmas.List.{nil_from_length, take_more}
 use Rattle.std.proofs.lemmas.List.Sorted.{IsPermutation-refl, IsPermutation-cons, IsPermutation-trans, IsPermutation-sym, IsPermutation-remove, length_permutation}
 use Rattle.leaf_store.specs.Tag.{tag_of}
 use Rattle.map_model.specs.Maps.{Pairs, IsMap, sorted}
+use Rattle.map_model.proofs.Finds.{ascending_sorted}
 use Rattle.leaf_store.specs.Leaf.{LeafMap}
 use Rattle.leaf_store.specs.Rows.{bit, is_pair, times, places, AreTags, IsLeaf}
-use Rattle.leaf_store.proofs.Unsorted.{total_permutation, once_permutation, sorted_ascending}
+use Rattle.leaf_store.proofs.Unsorted.{total_permutation, once_permutation, sorted_ascending, sorted_same}
 use Rattle.leaf_store.proofs.Places.{times_contains, pair_itself, length-places}
 use Rattle.leaf_store.proofs.Tagged.{tags_added}
 
@@ -39,8 +40,12 @@ module _ {V : Type 0} where
       let q : IsPermutation ((tag_of salt (get_or rows i x).0, length (take i rows)) ∷ pairs) more = subst (λ n. IsPermutation ((tag_of salt (get_or rows i x).0, n) ∷ pairs) more) (sym size) (subst (λ t. IsPermutation ((t, i) ∷ pairs) more) e p) in
       subst (λ rs. AreTags salt rs more) (sym (take_more rows i x lt)) (tags_added salt (take i rows) pairs tags (get_or rows i x) more q)
 
-  pub settled_leaf : (salt : ℕ) (rows : Pairs V) (pairs : List (ℕ × ℕ)) (ordered : Bool) → IsLeaf salt rows pairs ordered → (new : Pairs V) (more : List (ℕ × ℕ)) → IsPermutation rows new → IsMap new → AreTags salt new more → IsLeaf salt new more true
-  settled_leaf salt rows pairs ordered leaf new more p up tags = record { keys = once_permutation rows new p leaf.keys; tags = tags; order = λ _. up }
+  pub settled_leaf : (salt : ℕ) (rows : Pairs V) (pairs : List (ℕ × ℕ)) (ordered : Bool) → IsLeaf salt rows pairs ordered → (new : Pairs V) (more : List (ℕ × ℕ)) → new ≡ sorted rows → AreTags salt (sorted rows) more → IsLeaf salt new more true
+  settled_leaf salt rows pairs ordered leaf new more e tags = record {
+    keys = once_permutation rows new (subst (IsPermutation rows) (sym e) (sorted_same rows leaf.keys)) leaf.keys;
+    tags = subst (λ rs. AreTags salt rs more) (sym e) tags;
+    order = λ _. subst IsMap (sym e) (ascending_sorted rows);
+  }
 
   pub seen_map : (m n : LeafMap V) → m ≡ n → (p : Pairs V) → p ≡ m.map → p ≡ n.map
   seen_map m n e p f = subst (λ (s : LeafMap V). p ≡ s.map) e f

@@ -9,8 +9,9 @@ ghost use Rattle.key_bytes.specs.Fnv.{prefix_hash};
 ghost use Rattle.leaf_store.specs.Lent.{LendsValue};
 ghost use Rattle.leaf_store.specs.Tag.{tag_of};
 
-use crate::order::{count_under, move_tail, sort_rows};
-use crate::rows::{add_tags, cut_tags, first_bits, place_of, retag, take_tag};
+use crate::order::{count_under, move_tail};
+use crate::ranks::settle;
+use crate::rows::{add_tags, cut_tags, first_bits, place_of, take_tag};
 use key_bytes::{Bound, Key, prefix_hash};
 use leaf_tags::Tags;
 use std::alloc::{AllocError, Global};
@@ -110,25 +111,28 @@ impl<V> Leaf<V> {
         }
     }
 
-    /// Makes room for `count` more keys.
+    /// Makes room for `count` more keys, and no more room than that for the rows. There is none for more
+    /// than 65,536 keys in all.
     pub fn reserve(&mut self, count: usize) -> Result<(), AllocError>
         ensures stays { self.new ≡ record self.old { spare = self.new.spare } }
         ensures room { OnOk result (count ≤ self.new.spare) }
         ensures kept { self.old.spare ≤ self.new.spare }
         ensures succeeds { count ≤ self.old.spare → IsOk result }
     {
-        self.rows.reserve(count)?;
+        self.rows.reserve_exact(count)?;
         self.tags.reserve_many(count)
     }
 
-    /// Makes room for one more key.
+    /// Makes room for one more key, of at most 65,536. The room grows by doubling, so that few of these
+    /// calls move the rows.
     pub fn reserve_one(&mut self) -> Result<(), AllocError>
         ensures stays { self.new ≡ record self.old { spare = self.new.spare } }
         ensures room { OnOk result (1 ≤ self.new.spare) }
         ensures kept { self.old.spare ≤ self.new.spare }
         ensures succeeds { 1 ≤ self.old.spare → IsOk result }
     {
-        self.reserve(1)
+        self.rows.reserve(1)?;
+        self.tags.reserve()
     }
 
     /// Sets the value of a key, and gives back the old one. A key that is new goes to the end of
@@ -164,7 +168,8 @@ impl<V> Leaf<V> {
         ensures spare { self.old.spare ≤ self.new.spare + 1 }
     {
         self.ordered = false;
-        self.tags.add(first_bits(hash), self.rows.len());
+        let place = self.tags.len();
+        self.tags.add(first_bits(hash), place);
         self.rows.push_reserved((key, value));
     }
 
@@ -217,8 +222,8 @@ impl<V> Leaf<V> {
     /// included, to `upto`, excluded. Where `from` is above `upto` the first place is above the
     /// second, and there are no such pairs.
     ///
-    /// The sort takes no memory, so this call never fails today. Rows that are in order cost two
-    /// binary searches.
+    /// A sort takes up to 18 bytes for each row while it runs, and is slower where there is no memory
+    /// for them, so this call never fails today. Rows that are in order cost two binary searches.
     pub fn pairs_between(
         &mut self,
         from: &Bound,
@@ -298,10 +303,9 @@ impl<V> Leaf<V> {
         ensures room { right.old.spare ≤ right.new.spare }
     {
         self.reserve(right.rows.len())?;
-        let start = self.rows.len();
         self.rows.append(&mut right.rows)?;
         right.tags.clear();
-        add_tags(&mut self.tags, &self.rows, self.salt, start);
+        add_tags(&mut self.tags, &self.rows, self.salt);
         self.ordered = false;
         Ok(())
     }
@@ -315,8 +319,7 @@ impl<V> Leaf<V> {
         ensures again { IsTrue self.old.is_ordered → self.new ≡ self.old }
     {
         if !self.ordered {
-            sort_rows(&mut self.rows);
-            retag(&mut self.tags, &self.rows, self.salt);
+            settle(&mut self.rows, &mut self.tags, self.salt);
             self.ordered = true;
         }
     }

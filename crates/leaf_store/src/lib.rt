@@ -4,6 +4,7 @@
 
 mod leaf;
 mod order;
+mod ranks;
 mod rows;
 
 pub use leaf::Leaf;

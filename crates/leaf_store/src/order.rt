@@ -1,9 +1,8 @@
 //! The order of rows by their keys, and where it is cut.
-ghost use Rattle.std.specs.Prelude.{◌≡◌, ℕ, ◌+◌, ◌-◌, ◌<◌, ◌≤◌, [], length, take, drop, vec_capacity, vec_len};
-ghost use Rattle.std.specs.List.Sorted.{IsPermutation};
+ghost use Rattle.std.specs.Prelude.{◌≡◌, ◌-◌, ◌≤◌, [], length, take, drop, vec_capacity, vec_len};
 ghost use Rattle.key_bytes.specs.Bound.{is_under};
 ghost use Rattle.key_bytes.specs.declared.bound.Bound.TheVariants.{Low};
-ghost use Rattle.map_model.specs.Maps.{IsMap, between};
+ghost use Rattle.map_model.specs.Maps.{IsMap, between, sorted};
 ghost use Rattle.leaf_store.specs.Rows.{AreOnce};
 
 use key_bytes::{Bound, Key};
@@ -12,8 +11,7 @@ use std::cmp::Ordering;
 // Sorts rows by their keys. It takes no memory.
 pub(crate) fn sort_rows<V>(rows: &mut Vec<(Key, V)>)
     requires { AreOnce rows.old.items }
-    ensures same { IsPermutation rows.old.items rows.new.items }
-    ensures ascending { IsMap rows.new.items }
+    ensures rows { rows.new.items ≡ sorted rows.old.items }
     ensures capacity { vec_capacity rows.new ≡ vec_capacity rows.old }
 {
     rows.sort_unstable_by(|a, b| a.0.order(&b.0));

@@ -7,7 +7,6 @@ ghost use Rattle.leaf_store.specs.Rows.{AreTags};
 
 use key_bytes::{Key, prefix_hash};
 use leaf_tags::Tags;
-use std::cmp::Ordering;
 
 // The tag in a hash: the first 16 of its 64 bits.
 pub(crate) fn first_bits(hash: u64) -> u16
@@ -29,7 +28,7 @@ fn has_key<V>(rows: &[(Key, V)], place: usize, key: &Key) -> bool
     requires { place < length rows.now }
     ensures { (d : List ℕ × V) → result ≡ is_same (slice_index_or rows.now place d).0 key.now }
 {
-    matches!(rows[place].0.order(key), Ordering::Equal)
+    rows[place].0.bytes() == key.bytes()
 }
 
 // The place of the row that has the key, among the rows of a tag.
@@ -54,22 +53,22 @@ pub(crate) fn take_tag<V>(tags: &mut Tags, rows: &[(Key, V)], salt: u64, tag: u1
     ensures tags { (d : List ℕ × V) → AreTags salt (swap_remove rows.now place d) tags.new.pairs }
     ensures spare { tags.old.spare ≤ tags.new.spare }
 {
-    let last = rows.len() - 1;
+    let last = tags.len() - 1;
     tags.remove(tag, place);
     if place < last {
         tags.moved(tag_of(salt, &rows[last].0), last, place);
     }
 }
 
-// Adds the tags of the rows from a place on.
-pub(crate) fn add_tags<V>(tags: &mut Tags, rows: &[(Key, V)], salt: u64, from: usize)
-    requires tags { AreTags salt (take from rows.now) tags.old.pairs }
-    requires in_range { from ≤ length rows.now }
-    requires room { length rows.now - from ≤ tags.old.spare }
+// Adds the tags of the rows behind those whose tags are there.
+pub(crate) fn add_tags<V>(tags: &mut Tags, rows: &[(Key, V)], salt: u64)
+    requires tags { AreTags salt (take (length tags.old.pairs) rows.now) tags.old.pairs }
+    requires in_range { length tags.old.pairs ≤ length rows.now }
+    requires room { length rows.now - length tags.old.pairs ≤ tags.old.spare }
     ensures tags { AreTags salt rows.now tags.new.pairs }
-    ensures spare { tags.old.spare ≤ tags.new.spare + (length rows.now - from) }
+    ensures spare { tags.old.spare ≤ tags.new.spare + (length rows.now - length tags.old.pairs) }
 {
-    for place in from..rows.len() {
+    for place in tags.len()..rows.len() {
         tags.add(tag_of(salt, &rows[place].0), place);
     }
 }
@@ -81,7 +80,7 @@ pub(crate) fn retag<V>(tags: &mut Tags, rows: &[(Key, V)], salt: u64)
     ensures spare { length tags.old.pairs + tags.old.spare ≤ length rows.now + tags.new.spare }
 {
     tags.clear();
-    add_tags(tags, rows, salt, 0);
+    add_tags(tags, rows, salt);
 }
 
 // Cuts the tags of rows at a place: those of the first rows stay, and the others go to `right`,

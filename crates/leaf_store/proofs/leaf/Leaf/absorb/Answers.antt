@@ -1,9 +1,9 @@
-use Rattle.std.proofs.Common.{arith, ◌∙◌, ◌++◌, ap, subst, length}
+use Rattle.std.proofs.Common.{arith, ◌∙◌, ◌++◌, ap, subst, length, length-append}
 use Rattle.map_model.specs.Maps.{sorted}
 use Rattle.leaf_store.specs.Rows.{AreTags}
 use Rattle.leaf_store.proofs.Unsorted.{length-sorted}
-use Rattle.leaf_store.proofs.Joined.{still_apart, joined_map, joined_leaf}
-use Rattle.leaf_store.proofs.Settled.{seen_pairs}
+use Rattle.leaf_store.proofs.Joined.{seam_tags, still_apart, joined_map, joined_leaf}
+use Rattle.leaf_store.proofs.Settled.{length-tags, seen_pairs, seen_spare}
 use Rattle.leaf_store.proofs.leaf.Leaf.absorb.Goals as goal
 
 pub returns-in_err-reserve-clause-succeeds : goal.returns-in_err-reserve-clause-succeeds
@@ -11,6 +11,22 @@ returns-in_err-reserve-clause-succeeds g c = λ room.
     let e = length-sorted c.right.inside.rows.items c.right.invariant.keys in
     let v = ap length (seen_pairs _ _ c.right.view_is) in
     absurd (cc (c.in_err-reserve.ensures.succeeds (omega (arith, e, v, room, c.len.ensures))))
+
+pub add_tags-requires-clause-tags : goal.add_tags-requires-clause-tags
+add_tags-requires-clause-tags g c = rw (c.deref.ensures.value, c.in_ok-append.ensures.items) (seam_tags c.self.inside.rows.items c.right.inside.rows.items c.self.inside.salt c.self.inside.tags.pairs c.self.invariant.tags)
+
+pub add_tags-requires-clause-in_range : goal.add_tags-requires-clause-in_range
+add_tags-requires-clause-in_range g c =
+    let tags = length-tags c.self.inside.salt c.self.inside.rows.items c.self.inside.tags.pairs c.self.invariant.tags in
+    let rows = ap length (c.deref.ensures.value ∙ c.in_ok-append.ensures.items) in
+    omega (arith, tags, rows, length-append c.self.inside.rows.items c.right.inside.rows.items)
+
+pub add_tags-requires-clause-room : goal.add_tags-requires-clause-room
+add_tags-requires-clause-room g c =
+    let tags = length-tags c.self.inside.salt c.self.inside.rows.items c.self.inside.tags.pairs c.self.invariant.tags in
+    let rows = ap length (c.deref.ensures.value ∙ c.in_ok-append.ensures.items) in
+    let spare = seen_spare _ _ c.self.view_is in
+    omega (arith, tags, rows, length-append c.self.inside.rows.items c.right.inside.rows.items, spare, c.in_ok-reserve.ensures.room, c.len.ensures)
 
 pub invariant_of-self-2 : goal.invariant_of-self-2
 invariant_of-self-2 g c =
