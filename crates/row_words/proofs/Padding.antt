@@ -11,9 +11,12 @@ zeros n = replicate n 0
 length-zeros : (n : ℕ) → length (zeros n) ≡ n
 length-zeros n = length-replicate {A = ℕ} n 0
 
--- zeros in three parts
-pub zeros_parts : (n m l : ℕ) → zeros n ++ zeros m ++ zeros l ≡ zeros (n + m + l)
-zeros_parts n m l = ap (λ (zs : List ℕ). zs ++ zeros l) (replicate-append-replicate {A = ℕ} n m 0) ∙ replicate-append-replicate {A = ℕ} (n + m) l 0
+-- zeros in four parts
+pub zeros_parts : (n m l k : ℕ) → zeros n ++ zeros m ++ zeros l ++ zeros k ≡ zeros (n + m + l + k)
+zeros_parts n m l k =
+    ap (λ (zs : List ℕ). zs ++ zeros l ++ zeros k) (replicate-append-replicate {A = ℕ} n m 0)
+    ∙ ap (λ (zs : List ℕ). zs ++ zeros k) (replicate-append-replicate {A = ℕ} (n + m) l 0)
+    ∙ replicate-append-replicate {A = ℕ} (n + m + l) k 0
 
 -- one more zero, where n words stand before the zeros
 pub zeros_more : (ws : List ℕ) (n i : ℕ) → n ≤ i → (ws ++ zeros (i - n)) ++ 0 ∷ [] ≡ ws ++ zeros (i + 1 - n)

@@ -8,21 +8,23 @@ use Rattle.row_words.specs.declared.vec_rows.VecRows.{VecRows}
 abbrev pub shape_of : VecRows → Shape
 shape_of rows = rows.shape
 
--- a table's words: the header and the heads, the items, and the leaf rows
-unfoldable pub joined : List ℕ → List ℕ → List ℕ → List ℕ
-joined front items leaves = front ++ items ++ leaves
+-- a table's words: the header, the heads, the items, and the leaf rows
+unfoldable pub joined : List ℕ → List ℕ → List ℕ → List ℕ → List ℕ
+joined header heads items leaves = header ++ heads ++ items ++ leaves
 
 -- Of the items and of the leaf rows only the first words lie in memory: each list goes on with zeros up to the
--- shape's count, so a word that was never written is 0.
+-- shape's count, so a word that was never written is 0. A head lies there as its two halves.
 abbrev pub words_of : VecRows → List ℕ
-words_of rows = joined rows.front.items rows.items rows.leaves
+words_of rows = joined rows.header rows.heads rows.items rows.leaves
 
 -- there are as many words as the shape says
 pub length-words_of : (rows : VecRows) → length (words_of rows) ≡ word_count (shape_of rows)
 unfolding joined
 length-words_of rows =
-    length-append (rows.front.items ++ rows.items) rows.leaves
-    ∙ ap (λ (n : ℕ). n + length rows.leaves) (length-append rows.front.items rows.items)
-    ∙ ap (λ (n : ℕ). n + length rows.items + length rows.leaves) rows.front_sized
+    length-append (rows.header ++ rows.heads ++ rows.items) rows.leaves
+    ∙ ap (λ (n : ℕ). n + length rows.leaves) (length-append (rows.header ++ rows.heads) rows.items)
+    ∙ ap (λ (n : ℕ). n + length rows.items + length rows.leaves) (length-append rows.header rows.heads)
+    ∙ ap (λ (n : ℕ). n + length rows.heads + length rows.items + length rows.leaves) rows.header_sized
+    ∙ ap (λ (n : ℕ). 4 + n + length rows.items + length rows.leaves) rows.heads_sized
     ∙ ap (λ (n : ℕ). 4 + rows.shape.heads + n + length rows.leaves) rows.items_sized
     ∙ ap (λ (n : ℕ). 4 + rows.shape.heads + 8 * rows.shape.items + n) rows.leaves_sized

@@ -3,6 +3,7 @@
 #![tactic(auto)]
 
 mod anchor_words;
+mod head_words;
 mod leaves;
 mod padded_words;
 mod probes;

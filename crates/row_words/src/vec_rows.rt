@@ -4,6 +4,7 @@ ghost use Rattle.std.specs.Prelude.{◌≡◌, ◌<◌, ◌+◌, ◌*◌, IfOk, 
 ghost use Rattle.row_words.specs.Layout.{word_count};
 ghost use Rattle.row_words.specs.Shape.{IsShape};
 
+use crate::head_words::HeadWords;
 use crate::padded_words::PaddedWords;
 use crate::{ItemRow, LeafRow, Probe, Rows, RowsMut, Shape, Words, leaf_words, probe_words};
 use std::alloc::{AllocError, Global};
@@ -11,20 +12,22 @@ use std::sync::ledger::Ledger;
 use steps::Steps;
 
 /// A table in vectors. When it is made, memory for all of its words is reserved, and only the header
-/// and the heads are written: eight bytes for each bucket. A page of the items, and one of the leaf
-/// rows, is touched when a word other than 0 is written in it, or behind it in the same vector: up to
-/// that word the vector is filled with zeros. So an item or a leaf costs memory once one at its place
-/// or at a greater one is first used, and where places are used from the least on, a write fills a few
-/// words at most. A word that was never written is read as 0, without a look at memory.
+/// and the lower halves of the heads are written: four bytes for each bucket. A page of the items, and
+/// one of the leaf rows, is touched when a word other than 0 is written in it, or behind it in the same
+/// vector: up to that word the vector is filled with zeros. So an item or a leaf costs memory once one
+/// at its place or at a greater one is first used, and where places are used from the least on, a write
+/// fills a few words at most. So it is with the upper halves of the heads, which stay 0 where a head is
+/// a place + 1. A word that was never written is read as 0, without a look at memory.
 #[derive(Debug, Drop)]
 pub struct VecRows {
     shape: Shape,
-    // The header and the heads.
-    front: Vec<u64>,
+    header: [u64; 4],
+    heads: HeadWords,
     items: PaddedWords,
     leaves: PaddedWords,
     ghost ranges: { IsShape shape },
-    ghost front_sized: { length front.items ≡ 4 + shape.heads },
+    ghost header_sized: { length header ≡ 4 },
+    ghost heads_sized: { length heads ≡ shape.heads },
     ghost items_sized: { length items ≡ 8 * shape.items },
     ghost leaves_sized: { length leaves ≡ 35 * shape.leaves },
 }
@@ -33,8 +36,8 @@ pub struct VecRows {
 impl VecRows {
     ghost use Rattle.row_words.specs.VecRows.{shape_of, words_of};
 
-    /// A table whose words are all 0. It reserves eight bytes for each word of the shape, and writes
-    /// the header and the heads alone.
+    /// A table whose words are all 0. It reserves eight bytes for each word of the shape and four more
+    /// for each bucket, and writes those four alone.
     pub fn new(alloc: Global, shape: &Shape) -> Result<VecRows, AllocError>
         requires { IsShape shape.now }
         ensures shape { IfOk result (λ rows. shape_of rows ≡ shape.now) }
@@ -42,7 +45,8 @@ impl VecRows {
     {
         Ok(VecRows {
             shape: *shape,
-            front: vec![in alloc; 0; 4 + shape.heads as usize]?,
+            header: [0; 4],
+            heads: HeadWords::new(alloc, shape.heads as usize)?,
             items: PaddedWords::new(alloc, 8 * shape.items as usize)?,
             leaves: PaddedWords::new(alloc, 35 * shape.leaves as usize)?,
         })
@@ -108,11 +112,11 @@ impl Rows for VecRows {
     }
 
     fn longest(&mut self) -> u32 {
-        (self.front[0] % 4_294_967_296) as u32
+        (self.header[0] % 4_294_967_296) as u32
     }
 
     fn head(&mut self, bucket: u32) -> u32 {
-        (self.front[4 + bucket as usize] % 4_294_967_296) as u32
+        self.heads.lower(bucket as usize)
     }
 
     fn probe<L: Ledger>(
@@ -139,8 +143,10 @@ impl RowsMut for VecRows {
     fn word(&mut self, i: u32) -> u64 {
         let front = 4 + self.shape.heads;
         let items = 8 * self.shape.items;
-        if i < front {
-            self.front[i as usize]
+        if i < 4 {
+            self.header[i as usize]
+        } else if i < front {
+            self.heads.get(i as usize - 4)
         } else if i - front < items {
             self.items.get((i - front) as usize)
         } else {
@@ -148,11 +154,14 @@ impl RowsMut for VecRows {
         }
     }
 
+    #[tactic(auto, using(crate::proofs::Joined::set_header, crate::proofs::Joined::set_heads, crate::proofs::Joined::set_items, crate::proofs::Joined::set_leaves))]
     fn set_word(&mut self, i: u32, word: u64) {
         let front = 4 + self.shape.heads;
         let items = 8 * self.shape.items;
-        if i < front {
-            self.front[i as usize] = word;
+        if i < 4 {
+            self.header[i as usize] = word;
+        } else if i < front {
+            self.heads.set(i as usize - 4, word);
         } else if i - front < items {
             self.items.set((i - front) as usize, word);
         } else {
