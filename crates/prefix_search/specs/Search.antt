@@ -1,5 +1,5 @@
 -- What a search for a key in the rows of a table answers, and in how many steps.
-use Rattle.std.specs.Prelude.{ℕ, ◌≡◌, ◌+◌, ◌*◌, ◌^◌, List, length, min, nat_le, if◌then◌else◌, Option, Some}
+use Rattle.std.specs.Prelude.{ℕ, ◌≡◌, ◌+◌, ◌*◌, ◌^◌, List, [], ◌∷◌, length, min, nat_le, Bool, false, if◌then◌else◌, Option, Some}
 use Rattle.std.proofs.Common.{zero, suc}
 use Rattle.anchor_rules.specs.Anchors.{Anchors, span, target}
 use Rattle.anchor_rules.specs.Items.{Item, item, IsLongest, longest_anchor}
@@ -27,6 +27,11 @@ IsLongestOf A key len row = (it : Item) × IsLongest A key len it × Says row it
 -- the row says what the item of this prefix tells
 abbrev pub Tells : Anchors → List ℕ → ItemRow → Type 0
 Tells A prefix row = (it : Item) × (item A prefix ≡ Some it) × Says row it
+
+-- the first of these bytes goes on from the prefix in an anchor
+abbrev pub has_child : Item → List ℕ → Bool
+has_child it [] = false
+has_child it (c ∷ rest) = it.child c
 
 -- this leaf's anchor is followed by that one, or by none
 abbrev pub IsFollowed : Anchors → ℕ → Option (List ℕ) → Type 0

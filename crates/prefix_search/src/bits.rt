@@ -4,6 +4,14 @@ ghost use Rattle.std.specs.Prelude.{◌≡◌, ◌≤◌, ◌==◌, ◌/◌, ◌
 ghost use Rattle.anchor_rules.specs.Items.{greatest_below};
 ghost use Rattle.meta_trie.specs.Trie.{bit_of};
 
+/// Whether a byte is in a bitmap.
+#[inline]
+pub(crate) fn has_byte(bits: &[u64; 4], byte: u8) -> bool
+    ensures { result ≡ bit_of bits.now byte }
+{
+    bits[usize::from(byte / 64)] >> (byte % 64) & 1 == 1
+}
+
 /// The lowest n bits of a word.
 fn low_bits(word: u64, n: u32) -> u64
     requires { n ≤ 64 }

@@ -19,14 +19,15 @@ impl Hint {
         self.len as usize
     }
 
-    /// Learns from the length that a search reached. The guess goes down at once and up slowly, so
-    /// that it stays a little below the usual length, and the first look nearly always finds an item.
+    /// Learns from the length that a search reached. The guess goes down at once, and up by one where
+    /// the length is more than one above it. So it stays just below the usual length: the first look
+    /// nearly always finds an item, whose child bytes mostly end the search or leave one look more.
     #[inline]
     pub(crate) fn learn(&mut self, reached: u32) {
         if reached < self.len {
             self.len = reached;
-        } else {
-            self.len += (reached - self.len) / 4;
+        } else if reached - self.len > 1 {
+            self.len += 1;
         }
     }
 }

@@ -26,11 +26,11 @@ use steps::Steps;
 /// child below the key's next byte; without one, at the prefix itself where that is an anchor, and
 /// else at the leaf before all those that begin with the prefix.
 ///
-/// That is a look for each binary digit of the length, or one step for the empty prefix where none
-/// of them finds anything, and then a look for the child, or one step for the leaf before, or none.
-/// With a hint near the length it is fewer looks, and with any hint no more. The row of the leaf
-/// that it ends in isn't read. The hash goes on from that of the prefix, so each byte behind the
-/// prefix is hashed once.
+/// That is at most a look for each binary digit of the length, or one step for the empty prefix where
+/// none of them finds anything, and then a look for the child, or one step for the leaf before, or
+/// none. With a hint just below the prefix's length it is mostly one or two looks, and with any hint
+/// no more than the digits. The row of the leaf that it ends in isn't read. The hash goes on from
+/// that of the prefix, so each byte behind the prefix is hashed once.
 pub fn seek<R: Rows, L: Ledger>(
     rows: &mut R,
     key: &Key,

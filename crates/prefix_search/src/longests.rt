@@ -3,10 +3,13 @@
 ghost use Rattle.std.specs.Prelude.{◌≡◌, ◌≤◌, ◌+◌, ◌*◌, ℕ, [], length, take, MatchOption};
 ghost use Rattle.key_bytes.specs.Fnv.{prefix_hash};
 ghost use Rattle.anchor_rules.specs.Anchors.{Anchors};
+ghost use Rattle.anchor_rules.specs.Items.{Item};
+ghost use Rattle.meta_trie.specs.Trie.{Says};
 ghost use Rattle.meta_trie.specs.Stands.{StandsFor, IsTable, MostInBucket};
-ghost use Rattle.prefix_search.specs.Search.{IsLongestOf, Tells, length_digits};
+ghost use Rattle.prefix_search.specs.Search.{IsLongestOf, Tells, has_child, length_digits};
 
 use crate::answers::Longest;
+use crate::bits::has_byte;
 use crate::middles::middle_of;
 use crate::roots::root;
 use key_bytes::{Fnv, Key};
@@ -26,8 +29,8 @@ pub(crate) struct Reached {
 /// The longest prefix of the key that has an item, and its item.
 ///
 /// This is a binary search on the length, which hashes on from the longest prefix known so far. It
-/// takes a look for each binary digit of the length, and a step for the empty prefix where no look
-/// finds anything.
+/// ends at once at an item that has no child at the key's next byte. It takes at most a look for each
+/// binary digit of the length, and a step for the empty prefix where no look finds anything.
 pub fn longest<R: Rows, L: Ledger>(rows: &mut R, key: &Key, steps: &mut Steps<L>) -> Longest
     requires { IsTable (R.shape rows.old) (R.words rows.old) }
     ensures longest { (A : Anchors) → StandsFor (R.shape rows.old) (R.words rows.old) A → IsLongestOf A key.now result.len result.item }
@@ -72,6 +75,9 @@ pub(crate) fn reach<R: Rows, L: Ledger>(
             Some(item) => {
                 low = middle;
                 hash = further;
+                if !goes_on(&item, &key[middle..]) {
+                    high = middle;
+                }
                 found = Some(item);
             }
             None => high = middle - 1,
@@ -82,6 +88,14 @@ pub(crate) fn reach<R: Rows, L: Ledger>(
         hash,
         item: item_or_root(rows, found, steps),
     }
+}
+
+/// Whether the first of these bytes is a child of the item.
+#[inline]
+fn goes_on(item: &ItemRow, rest: &[u8]) -> bool
+    ensures { (it : Item) → Says item.now it → result ≡ has_child it rest.now }
+{
+    !rest.is_empty() && has_byte(&item.bits, rest[0])
 }
 
 /// The item that was found, and without one that of the empty prefix, for one step.

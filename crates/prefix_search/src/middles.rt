@@ -3,8 +3,10 @@
 ghost use Rattle.std.specs.Prelude.{◌≡◌, ◌<◌, ◌≤◌, ◌+◌, ◌-◌, ◌*◌, ◌^◌, ℕ};
 
 /// The length to look at next, of those above `low` up to `high`: the hint or the length nearest to
-/// it that leaves one binary digit less to search, whatever the look finds. A hint that isn't among
-/// these lengths is as none, and then it is the middle.
+/// it that leaves one binary digit less to search, whatever the look finds. So it is the least of
+/// these lengths where the hint is at most `low`: there an item was found, and the longest prefix
+/// mostly ends soon behind it. A hint of 0 is none, and one above `high` tells no more: then it is
+/// the middle.
 #[inline]
 pub(crate) fn middle_of(low: usize, high: usize, hint: usize) -> usize
     requires { low < high }
@@ -14,7 +16,7 @@ pub(crate) fn middle_of(low: usize, high: usize, hint: usize) -> usize
     ensures narrow_below { (n : ℕ) → high - low < 2 * 2 ^ n → result - 1 - low < 2 ^ n }
 {
     let width = high - low;
-    if hint <= low || high < hint {
+    if hint == 0 || high < hint {
         return high - width / 2;
     }
     let most = most_left(width);

@@ -9,6 +9,7 @@ use Rattle.meta_trie.specs.Stands.{StandsFor}
 use Rattle.row_words.specs.declared.rows.ItemRow.{ItemRow}
 use Rattle.row_words.specs.declared.shape.Shape.{Shape}
 use Rattle.prefix_search.specs.Search.{Tells, length_digits}
+use Rattle.prefix_search.proofs.Children.{none_behind}
 use Rattle.prefix_search.proofs.Digits.{left_less, below_digits}
 use Rattle.prefix_search.proofs.Hashing.{hash_on}
 use Rattle.prefix_search.proofs.Tables.{longest_is, none_past}
@@ -39,8 +40,26 @@ loop-low-init g c =
       };
     }
 
-pub loop-low-preserved-in-Some : goal.loop-low-preserved-in-Some
-loop-low-preserved-in-Some g c =
+pub loop-low-preserved-then-not-goes_on : goal.loop-low-preserved-then-not-goes_on
+loop-low-preserved-then-not-goes_on g c =
+    let v = rw (c.loop-low.invariant.shape, c.loop-low.invariant.words) at c.in-Some.ensures.value in
+    let cost = rw (c.loop-low.invariant.shape, c.loop-low.invariant.words) at c.look_by_hash.ensures.cost in
+    record {
+      words = c.look_by_hash.ensures.words ∙ c.loop-low.invariant.words;
+      shape = c.look_by_hash.ensures.shape ∙ c.loop-low.invariant.shape;
+      stays = g.met.R.Rows.stays_trans _ _ _ c.loop-low.invariant.stays c.look_by_hash.ensures.stays;
+      low_high = omega arith;
+      high_key = omega arith;
+      hash = hash_on _ c.loop-low.hash _ c.loop-low.low _ c.args.key.now (omega arith) c.loop-low.invariant.hash c.extend-further.ensures;
+      known = λ A s. let w = v A s in (w.0, w.1, w.2);
+      longest = λ A s m lt le.
+          let w = v A s in
+          none_behind A c.args.key.now c.middle_of-middle.result m w.0 c.goes_on.result w.1 (c.goes_on.ensures w.0 w.2) c.if-not-goes_on.true lt le;
+      cost = λ A s most fits. left_less _ _ _ _ _ _ (c.loop-low.invariant.cost A s most fits) (omega arith) (λ n lt. let p = c.middle_of-middle.ensures.narrow_above n lt in omega arith) (cost A s most fits);
+    }
+
+pub loop-low-preserved-else-not-goes_on : goal.loop-low-preserved-else-not-goes_on
+loop-low-preserved-else-not-goes_on g c =
     let v = rw (c.loop-low.invariant.shape, c.loop-low.invariant.words) at c.in-Some.ensures.value in
     let cost = rw (c.loop-low.invariant.shape, c.loop-low.invariant.words) at c.look_by_hash.ensures.cost in
     record {
