@@ -15,7 +15,8 @@ use Rattle.leaf_table.specs.Facts.{IsBefore, IsBehind}
 abbrev pub Names : ℕ → Option ℕ → Type 0
 Names link other = MatchOption other (link ≡ 0) (λ leaf. link ≡ leaf + 1)
 
-still : (x : List ℕ × ℕ) (xs : Anchors) (leaf : ℕ) → x.1 ≢ leaf → has_leaf (x ∷ xs) leaf ≡ true → has_leaf xs leaf ≡ true
+-- a leaf that isn't the first anchor's is live behind it
+pub still : (x : List ℕ × ℕ) (xs : Anchors) (leaf : ℕ) → x.1 ≢ leaf → has_leaf (x ∷ xs) leaf ≡ true → has_leaf xs leaf ≡ true
 still x xs leaf ne has = sym (ap (λ (o : Option Span). is_some o) (span_later x xs leaf ne)) ∙ has
 
 or_right : (a b : Bool) → b ≡ true → (a || b) ≡ true

@@ -1,6 +1,7 @@
 pub mod Beside
 pub mod Leaves
 pub mod Lengths
+pub mod ListedLeaves
 pub mod LiveLeaves
 pub mod Merging
 pub mod Overwritten

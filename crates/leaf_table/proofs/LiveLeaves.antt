@@ -1,5 +1,5 @@
 -- The number below which all leaves are live, while anchors come and go.
-use Rattle.std.proofs.Common.{◌≡◌, ◌≢◌, ℕ, ◌+◌, ◌<◌, List, [], ◌∷◌, true, false, Bool, is_some, Option, Some, None, refl, sym, ap, ◌∙◌, subst, arith, below_more}
+use Rattle.std.proofs.Common.{◌≡◌, ◌≢◌, ℕ, ◌+◌, List, [], ◌∷◌, true, false, Bool, is_some, Option, Some, None, refl, sym, ap, ◌∙◌, subst, arith, below_more}
 use mathlib.Core.Bool.{false≢true}
 use mathlib.Core.Logic.{dite}
 use native.Mathlib.Decide.{ℕ_discrete}

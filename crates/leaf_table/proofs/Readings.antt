@@ -1,5 +1,5 @@
 -- What is read of a table's leaves.
-use Rattle.std.proofs.Common.{◌≡◌, ℕ, ◌<◌, List, [], ◌∷◌, length, get_or, true, Some, refl, sym, ap, ◌∙◌, subst, arith}
+use Rattle.std.proofs.Common.{◌≡◌, ℕ, ◌<◌, List, [], ◌∷◌, length, get_or, true, Some, refl, sym, ap, ◌∙◌, subst}
 use Rattle.anchor_rules.specs.Anchors.{Anchors, Span, AreAnchors, span, has_leaf, target}
 use Rattle.anchor_rules.specs.Items.{first_leaf}
 use Rattle.anchor_rules.proofs.Spans.{in_target}
@@ -16,7 +16,7 @@ use Rattle.leaf_table.specs.Table.{Table, size_at}
 use Rattle.leaf_table.proofs.Leaves.{map_read, salt_read}
 use Rattle.leaf_table.proofs.Ranges.{target_first}
 use Rattle.leaf_table.proofs.Spreads.{target_live, spread_ascends, spread_find}
-use Rattle.leaf_table.proofs.Standing.{leaf_size, leaf_in_range}
+use Rattle.leaf_table.proofs.Standing.{leaf_size}
 
 -- the first leaf has the keys from the lowest end on
 pub first_target : (A : Anchors) → AreAnchors A → first_leaf A ≡ 0 → target A [] ≡ 0
@@ -34,10 +34,7 @@ from_first A High other = refl
 module _ (k : Shape) (ws : List ℕ) (leaves : List (LeafMap (List ℕ))) (keys : ℕ) (whole : IsLeafTable k ws leaves keys) (t : Table) (is : table_of k ws leaves ≡ t) where
   -- a leaf of the table has its place
   pub live_place : (leaf : ℕ) → has_leaf t.anchors leaf ≡ true → leaf < length leaves
-  live_place leaf has =
-      let h = leaf_in_range k ws leaves keys whole leaf (subst (λ (u : Table). has_leaf u.anchors leaf ≡ true) (sym is) has) in
-      let count = whole.count in
-      omega (arith, h, count)
+  live_place leaf has = whole.listed leaf (subst (λ (u : Table). has_leaf u.anchors leaf ≡ true) (sym is) has)
 
   -- the leaf of a key is live
   pub target_here : (leaf : ℕ) (key : List ℕ) → leaf ≡ target t.anchors key → has_leaf t.anchors leaf ≡ true

@@ -15,7 +15,7 @@ use Rattle.meta_trie.proofs.OnlyOne.{anchors_of-is}
 use Rattle.row_words.specs.declared.shape.Shape.{Shape}
 use Rattle.row_words.specs.Shape.{IsShape}
 use Rattle.leaf_table.specs.Facts.{IsWhole}
-use Rattle.leaf_table.specs.Leaves.{map_at, HaveSalt, table_of, IsLeafTable}
+use Rattle.leaf_table.specs.Leaves.{map_at, HaveSalt, AreListed, table_of, IsLeafTable}
 use Rattle.leaf_table.specs.Spread.{Spread, joined}
 use Rattle.leaf_table.specs.Table.{Table, size_at}
 use Rattle.leaf_table.proofs.Lengths.{length_with, length_without}
@@ -49,11 +49,11 @@ module _ (k : Shape) (ws : List ℕ) (leaves : List (LeafMap (List ℕ))) (A : A
       ap (λ B. new B (joined (anchors_of k ws) (map_at leaves))) anchors_are ∙ ap (new A) map_is
 
   -- and what holds of them
-  pub leaf_table_is : (keys : ℕ) → IsShape k → length leaves ≡ k.leaves → HaveSalt leaves k.salt → ((leaf : ℕ) → length (map_at leaves leaf) ≤ k.hard) → keys ≡ length m → IsLeafTable k ws leaves keys
-  leaf_table_is keys ranges count salts few all = record {
+  pub leaf_table_is : (keys : ℕ) → IsShape k → AreListed A (length leaves) → HaveSalt leaves k.salt → ((leaf : ℕ) → length (map_at leaves leaf) ≤ k.hard) → keys ≡ length m → IsLeafTable k ws leaves keys
+  leaf_table_is keys ranges listed salts few all = record {
     ranges = ranges;
     stands = subst (StandsFor k ws) (sym anchors_are) stands;
-    count = count;
+    listed = subst (λ B. AreListed B (length leaves)) (sym anchors_are) listed;
     salts = salts;
     spread = subst (λ B. Spread B (joined B (map_at leaves)) (map_at leaves)) (sym anchors_are) (spread_itself A stands.anchors m (map_at leaves) spread);
     few = few;

@@ -10,11 +10,12 @@ use Rattle.meta_trie.proofs.LeafRows.{leaves_fit}
 use Rattle.row_words.specs.declared.shape.Shape.{Shape}
 use Rattle.row_words.specs.Shape.{IsShape}
 use Rattle.leaf_table.specs.Changes.{stay_count, parting, IsSplit, IsMerged}
-use Rattle.leaf_table.specs.Leaves.{map_at, HaveSalt, table_of, IsLeafTable}
+use Rattle.leaf_table.specs.Leaves.{map_at, HaveSalt, AreListed, table_of, IsLeafTable}
 use Rattle.leaf_table.specs.Spread.{Spread, joined}
 use Rattle.leaf_table.specs.Table.{Table, size_at}
 use Rattle.leaf_table.proofs.Beside.{first_alone}
 use Rattle.leaf_table.proofs.Lengths.{length_with, length_without}
+use Rattle.leaf_table.proofs.ListedLeaves.{listed_first, listed_more, listed_split, listed_merge}
 use Rattle.leaf_table.proofs.Merging.{adjacent_live, spread_merge, is_merged}
 use Rattle.leaf_table.proofs.Splitting.{stay_less, parting_splits, spread_split, is_split}
 use Rattle.leaf_table.proofs.Spreads.{spread_start, spread_with, spread_without, spread_same, spread_find, spread_ascends}
@@ -28,18 +29,18 @@ pub record AreTable (k : Shape) (ws : List ℕ) (leaves : List (LeafMap (List �
   pub whole : IsLeafTable k ws leaves keys
   pub is : table_of k ws leaves ≡ t
 
-stands_as : (k : Shape) (ws : List ℕ) (leaves : List (LeafMap (List ℕ))) (keys : ℕ) (A : Anchors) (m : Pairs (List ℕ)) → IsShape k → StandsFor k ws A → length leaves ≡ k.leaves → HaveSalt leaves k.salt → Spread A m (map_at leaves)
+stands_as : (k : Shape) (ws : List ℕ) (leaves : List (LeafMap (List ℕ))) (keys : ℕ) (A : Anchors) (m : Pairs (List ℕ)) → IsShape k → StandsFor k ws A → AreListed A (length leaves) → HaveSalt leaves k.salt → Spread A m (map_at leaves)
     → ((leaf : ℕ) → length (map_at leaves leaf) ≤ k.hard) → keys ≡ length m → AreTable k ws leaves keys (record { shape = k; anchors = A; map = m })
-stands_as k ws leaves keys A m ranges stands count salts spread few all = record {
-  whole = leaf_table_is k ws leaves A m stands spread keys ranges count salts few all;
+stands_as k ws leaves keys A m ranges stands listed salts spread few all = record {
+  whole = leaf_table_is k ws leaves A m stands spread keys ranges listed salts few all;
   is = table_is k ws leaves A m stands spread;
 }
 
 -- one leaf of no keys
-pub made_stands : (k : Shape) (ws : List ℕ) (leaves : List (LeafMap (List ℕ))) → IsShape k → StandsFor k ws (([], 0) ∷ []) → length leaves ≡ k.leaves → HaveSalt leaves k.salt → ((leaf : ℕ) → map_at leaves leaf ≡ [])
+pub made_stands : (k : Shape) (ws : List ℕ) (leaves : List (LeafMap (List ℕ))) → IsShape k → StandsFor k ws (([], 0) ∷ []) → 0 < length leaves → HaveSalt leaves k.salt → ((leaf : ℕ) → map_at leaves leaf ≡ [])
     → AreTable k ws leaves 0 (record { shape = k; anchors = ([], 0) ∷ []; map = [] })
-made_stands k ws leaves ranges stands count salts empty =
-    stands_as k ws leaves 0 (([], 0) ∷ []) [] ranges stands count salts (spread_start (map_at leaves) 0 empty) (λ leaf. subst (λ (p : Pairs (List ℕ)). length p ≤ k.hard) (sym (empty leaf)) (omega arith)) refl
+made_stands k ws leaves ranges stands some salts empty =
+    stands_as k ws leaves 0 (([], 0) ∷ []) [] ranges stands (listed_first (length leaves) some) salts (spread_start (map_at leaves) 0 empty) (λ leaf. subst (λ (p : Pairs (List ℕ)). length p ≤ k.hard) (sym (empty leaf)) (omega arith)) refl
 
 module _ (k : Shape) (ws : List ℕ) (leaves : List (LeafMap (List ℕ))) (keys : ℕ) (whole : IsLeafTable k ws leaves keys) where
   -- there are far fewer keys than a counter can hold
@@ -72,10 +73,13 @@ module _ (k : Shape) (ws : List ℕ) (leaves : List (LeafMap (List ℕ))) (keys 
   pub leaf_find : (leaf : ℕ) (key : List ℕ) → leaf ≡ target (anchors_of k ws) key → find (map_at leaves leaf) key ≡ find (joined (anchors_of k ws) (map_at leaves)) key
   leaf_find leaf key at = ap (λ i. find (map_at leaves i) key) at ∙ sym (spread_find (anchors_of k ws) whole.stands.anchors (joined (anchors_of k ws) (map_at leaves)) (map_at leaves) whole.spread key)
 
-  module _ (new : List (LeafMap (List ℕ))) (count : length new ≡ length leaves) (salts : HaveSalt new k.salt) where
+  module _ (new : List (LeafMap (List ℕ))) (count : length leaves ≤ length new) (salts : HaveSalt new k.salt) where
+    still_listed : AreListed (anchors_of k ws) (length new)
+    still_listed = listed_more (anchors_of k ws) (length leaves) (length new) count whole.listed
+
     -- the leaves have the pairs that they had
     pub same_stands : ((leaf : ℕ) → map_at new leaf ≡ map_at leaves leaf) → AreTable k ws new keys (table_of k ws leaves)
-    same_stands same = stands_as k ws new keys (anchors_of k ws) (joined (anchors_of k ws) (map_at leaves)) whole.ranges whole.stands (count ∙ whole.count) salts
+    same_stands same = stands_as k ws new keys (anchors_of k ws) (joined (anchors_of k ws) (map_at leaves)) whole.ranges whole.stands still_listed salts
         (spread_same (anchors_of k ws) (joined (anchors_of k ws) (map_at leaves)) (map_at leaves) whole.spread (map_at new) same)
         (λ leaf. subst (λ (p : Pairs (List ℕ)). length p ≤ k.hard) (sym (same leaf)) (whole.few leaf)) whole.all
 
@@ -88,7 +92,7 @@ module _ (k : Shape) (ws : List ℕ) (leaves : List (LeafMap (List ℕ))) (keys 
       set_stands value now change room counted =
           let A = anchors_of k ws in
           let m = joined A (map_at leaves) in
-          stands_as k ws new now A (with m key value) whole.ranges whole.stands (count ∙ whole.count) salts
+          stands_as k ws new now A (with m key value) whole.ranges whole.stands still_listed salts
           (spread_with A whole.stands.anchors m (map_at leaves) whole.spread (map_at new) leaf key value (sym at) change others)
           (few_with (map_at leaves) (map_at new) k.hard leaf whole.few others key value (spread_ascends A m (map_at leaves) whole.spread leaf) (has_room room) change)
           (counted ∙ (ap (λ n. cond (is_some (find m key)) n (n + 1)) whole.all ∙ sym (length_with m whole.spread.ascends key value)))
@@ -106,24 +110,24 @@ module _ (k : Shape) (ws : List ℕ) (leaves : List (LeafMap (List ℕ))) (keys 
           let m = joined A (map_at leaves) in
           let less = length_without m whole.spread.ascends key in
           let all = whole.all in
-          stands_as k ws new now A (without m key) whole.ranges whole.stands (count ∙ whole.count) salts
+          stands_as k ws new now A (without m key) whole.ranges whole.stands still_listed salts
           (spread_without A whole.stands.anchors m (map_at leaves) whole.spread (map_at new) leaf key (sym at) change others)
           (few_without (map_at leaves) (map_at new) k.hard leaf whole.few others key (spread_ascends A m (map_at leaves) whole.spread leaf) change)
           (omega (arith, counted, less, all))
 
     module _ (rows : List ℕ) (l r : ℕ) (others : (other : ℕ) → other ≢ l → other ≢ r → map_at new other ≡ map_at leaves other) where
       -- a leaf gave its upper half to one that wasn't live
-      pub split_stands : 1 < length (map_at leaves l) → IsFreeLeaf k (anchors_of k ws) r → StandsFor k rows (with_split (anchors_of k ws) l (parting (map_at leaves l)) r)
+      pub split_stands : has_leaf (anchors_of k ws) l ≡ true → r < length new → 1 < length (map_at leaves l) → IsFreeLeaf k (anchors_of k ws) r → StandsFor k rows (with_split (anchors_of k ws) l (parting (map_at leaves l)) r)
           → map_at new l ≡ take (stay_count (length (map_at leaves l))) (map_at leaves l) → map_at new r ≡ drop (stay_count (length (map_at leaves l))) (map_at leaves l)
           → IsLeafTable k rows new keys × IsSplit (table_of k ws leaves) (table_of k rows new) l
-      split_stands many free stands stay go =
+      split_stands live place many free stands stay go =
           let A = anchors_of k ws in
           let m = joined A (map_at leaves) in
           let parts = whole.spread.parts l in
           let some : 1 < size_at (table_of k ws leaves) l = subst (λ (p : Pairs (List ℕ)). 1 < length p) parts many in
           let less = stay_less (length (map_at leaves l)) many in
           let s : AreTable k rows new keys (record { shape = k; anchors = with_split A l (parting (map_at leaves l)) r; map = m }) =
-          stands_as k rows new keys (with_split A l (parting (map_at leaves l)) r) m whole.ranges stands (count ∙ whole.count) salts
+          stands_as k rows new keys (with_split A l (parting (map_at leaves l)) r) m whole.ranges stands (listed_split A l (parting (map_at leaves l)) r (length new) live place still_listed) salts
           (spread_split A m (map_at leaves) (map_at new) l r whole.stands.anchors whole.spread many free.dead stay go others)
           (few_split (map_at leaves) (map_at new) k.hard l r whole.few others (stay_count (length (map_at leaves l))) (omega (arith, less)) stay go) whole.all in
           (s.whole, is_split (table_of k ws leaves) (table_of k rows new) l r whole.stands.anchors whole.spread.ascends some free refl (ap (λ (t : Table). t.anchors) s.is ∙ ap (λ p. with_split A l (parting p) r) parts) (ap (λ (t : Table). t.map) s.is))
@@ -136,7 +140,7 @@ module _ (k : Shape) (ws : List ℕ) (leaves : List (LeafMap (List ℕ))) (keys 
           let A = anchors_of k ws in
           let m = joined A (map_at leaves) in
           let s : AreTable k rows new keys (record { shape = k; anchors = with_merge A r; map = m }) =
-          stands_as k rows new keys (with_merge A r) m whole.ranges stands (count ∙ whole.count) salts
+          stands_as k rows new keys (with_merge A r) m whole.ranges stands (listed_merge A r (length new) still_listed) salts
           (spread_merge A m (map_at leaves) (map_at new) l r whole.stands.anchors whole.spread next taken emptied others)
           (few_merge (map_at leaves) (map_at new) k.hard l r whole.few others A m whole.stands.anchors whole.spread next room taken emptied) whole.all in
           (s.whole, is_merged (table_of k ws leaves) (table_of k rows new) l r whole.stands.anchors whole.spread.ascends next refl (ap (λ (t : Table). t.anchors) s.is) (ap (λ (t : Table). t.map) s.is))

@@ -1,5 +1,5 @@
 -- A table of which one leaf was written.
-use Rattle.std.proofs.Common.{◌≡◌, ◌≢◌, ℕ, ◌+◌, ◌<◌, ◌≤◌, List, [], ◌++◌, length, get_or, take, drop, Bool, true, false, cond, not, is_some, Option, None, IsSome, Result, Ok, Err, ◌⊎◌, inl, inr, ◌-◌, refl, sym, ap, ◌∙◌, subst, arith, true≢false}
+use Rattle.std.proofs.Common.{◌≡◌, ◌≢◌, ℕ, zero, suc, ◌+◌, ◌<◌, ◌≤◌, List, [], ◌++◌, length, get_or, take, drop, Bool, true, false, cond, not, is_some, Option, None, IsSome, Result, Ok, Err, ◌⊎◌, inl, inr, ◌-◌, refl, sym, ap, ◌∙◌, subst, arith, true≢false}
 use mathlib.Core.Logic.{dite}
 use native.Mathlib.Decide.{ℕ_discrete}
 use Rattle.std.specs.Prelude.{slice_set, OnErr, IfErr}
@@ -8,7 +8,7 @@ use Rattle.std.proofs.lemmas.List.{length-set}
 use Rattle.std.specs.declared.cmp.Ordering.TheVariants.{Less}
 use Rattle.key_bytes.specs.Bound.{bound_cmp}
 use Rattle.key_bytes.specs.declared.bound.Bound.{Bound}
-use Rattle.anchor_rules.specs.Anchors.{Anchors, Span, with_split, with_merge, adjacent, target}
+use Rattle.anchor_rules.specs.Anchors.{Anchors, Span, has_leaf, with_split, with_merge, adjacent, target}
 use Rattle.leaf_store.specs.Leaf.{LeafMap}
 use Rattle.map_model.specs.Maps.{Pairs, find, with, without, between, is_in, sorted}
 use Rattle.map_model.specs.declared.refusal.TableFull.{TableFull}
@@ -23,7 +23,7 @@ use Rattle.leaf_table.specs.Table.{Table, pairs_at, size_at}
 use Rattle.leaf_table.proofs.Leaves.{map_read, map_written, map_unwritten, salt_read, salt_written}
 use Rattle.leaf_table.proofs.Merging.{adjacent_live, adjacent_apart, merge_apart}
 use Rattle.leaf_table.proofs.PartEnds.{part_pairs, part_end_above, length_keep}
-use Rattle.leaf_table.proofs.Standing.{leaf_in_range, leaf_size}
+use Rattle.leaf_table.proofs.Standing.{leaf_size}
 use Rattle.leaf_table.proofs.WholeCalls.{AreTable, keys_some, same_stands, set_stands, remove_stands, split_stands, merge_stands, can_split, can_merge}
 
 -- what holds anyway holds where there is an error
@@ -57,6 +57,10 @@ count_same false keys e = omega arith
 pub moved : (k same_k : Shape) (ws same_ws : List ℕ) (leaves : List (LeafMap (List ℕ))) (keys : ℕ) (t : Table) → same_k ≡ k → same_ws ≡ ws → AreTable k ws leaves keys t → AreTable same_k same_ws leaves keys t
 moved k same_k ws same_ws leaves keys t e f are = subst (λ (j : Shape). AreTable j same_ws leaves keys t) (sym e) (subst (λ w. AreTable k w leaves keys t) (sym f) are)
 
+-- and with room for as many elements
+pub room_moved : (k same_k : Shape) (cap same_cap : ℕ) → same_k ≡ k → same_cap ≡ cap → k.leaves ≤ cap → same_k.leaves ≤ same_cap
+room_moved k same_k cap same_cap e f room = let n = ap (λ (j : Shape). j.leaves) e in omega (arith, n, f, room)
+
 pub moved_split : (k same_k : Shape) (ws same_ws : List ℕ) (left right : ℕ) (anchor : List ℕ) → same_k ≡ k → same_ws ≡ ws → CanSplit k ws left anchor right → CanSplit same_k same_ws left anchor right
 moved_split k same_k ws same_ws left right anchor e f can = subst (λ (j : Shape). CanSplit j same_ws left anchor right) (sym e) (subst (λ w. CanSplit k w left anchor right) (sym f) can)
 
@@ -80,6 +84,9 @@ module _ (k : Shape) (ws : List ℕ) (leaves : List (LeafMap (List ℕ))) (keys 
     salts_after : HaveSalt (slice_set leaves leaf l) k.salt
     salts_after = salt_written leaves k.salt leaf l whole.salts (salt ∙ (ap (λ (x : LeafMap (List ℕ)). x.salt) was ∙ salt_read leaves k.salt leaf old whole.salts lt))
 
+    no_fewer : length leaves ≤ length (slice_set leaves leaf l)
+    no_fewer = let n = length-set leaves leaf l in omega (arith, n)
+
     -- the same pairs
     same_maps : l.map ≡ old.map → (other : ℕ) → map_at (slice_set leaves leaf l) other ≡ map_at leaves other
     same_maps same other = dite (ℕ_discrete other leaf)
@@ -87,34 +94,34 @@ module _ (k : Shape) (ws : List ℕ) (leaves : List (LeafMap (List ℕ))) (keys 
         (λ ne. map_unwritten leaves leaf l other ne)
 
     same_written_is : l.map ≡ old.map → AreTable k ws (slice_set leaves leaf l) keys (table_of k ws leaves)
-    same_written_is same = same_stands k ws leaves keys whole (slice_set leaves leaf l) (length-set leaves leaf l) salts_after (same_maps same)
+    same_written_is same = same_stands k ws leaves keys whole (slice_set leaves leaf l) no_fewer salts_after (same_maps same)
 
     set_written_is : (key value : List ℕ) (now : ℕ) → leaf ≡ target (anchors_of k ws) key → l.map ≡ with old.map key value
         → (size_at (table_of k ws leaves) leaf < k.hard) ⊎ IsSome (find (table_of k ws leaves).map key)
         → now ≡ cond (is_some (find (table_of k ws leaves).map key)) keys (keys + 1)
         → AreTable k ws (slice_set leaves leaf l) now (record { shape = k; anchors = anchors_of k ws; map = with (table_of k ws leaves).map key value })
     set_written_is key value now at change room counted =
-        set_stands k ws leaves keys whole (slice_set leaves leaf l) (length-set leaves leaf l) salts_after leaf key at (map_unwritten leaves leaf l) value now
+        set_stands k ws leaves keys whole (slice_set leaves leaf l) no_fewer salts_after leaf key at (map_unwritten leaves leaf l) value now
         (map_written leaves leaf l lt ∙ (change ∙ ap (λ (p : Pairs (List ℕ)). with p key value) was_map)) room counted
 
     remove_written_is : (key : List ℕ) (now : ℕ) → leaf ≡ target (anchors_of k ws) key → l.map ≡ without old.map key
         → now + cond (is_some (find (table_of k ws leaves).map key)) 1 0 ≡ keys
         → AreTable k ws (slice_set leaves leaf l) now (record { shape = k; anchors = anchors_of k ws; map = without (table_of k ws leaves).map key })
     remove_written_is key now at change counted =
-        remove_stands k ws leaves keys whole (slice_set leaves leaf l) (length-set leaves leaf l) salts_after leaf key at (map_unwritten leaves leaf l) now
+        remove_stands k ws leaves keys whole (slice_set leaves leaf l) no_fewer salts_after leaf key at (map_unwritten leaves leaf l) now
         (map_written leaves leaf l lt ∙ (change ∙ ap (λ (p : Pairs (List ℕ)). without p key) was_map)) counted
 
     -- the leaf gave its upper half away, behind a parting anchor
-    halved_is : (rows : List ℕ) (new : List (LeafMap (List ℕ))) (right : ℕ) (anchor : List ℕ) → l.map ≡ old.map → 2 ≤ length old.map → IsFreeLeaf k (anchors_of k ws) right
-        → anchor ≡ parting old.map → StandsFor k rows (with_split (anchors_of k ws) leaf anchor right) → length new ≡ length (slice_set leaves leaf l) → (HaveSalt (slice_set leaves leaf l) k.salt → HaveSalt new k.salt)
+    halved_is : (rows : List ℕ) (new : List (LeafMap (List ℕ))) (right : ℕ) (anchor : List ℕ) → has_leaf (anchors_of k ws) leaf ≡ true → l.map ≡ old.map → 2 ≤ length old.map → IsFreeLeaf k (anchors_of k ws) right
+        → anchor ≡ parting old.map → StandsFor k rows (with_split (anchors_of k ws) leaf anchor right) → right < length new → length (slice_set leaves leaf l) ≤ length new → (HaveSalt (slice_set leaves leaf l) k.salt → HaveSalt new k.salt)
         → map_at new leaf ≡ take (stay_count (length (map_at (slice_set leaves leaf l) leaf))) (map_at (slice_set leaves leaf l) leaf)
         → map_at new right ≡ drop (stay_count (length (map_at (slice_set leaves leaf l) leaf))) (map_at (slice_set leaves leaf l) leaf)
         → ((other : ℕ) → other ≢ leaf → other ≢ right → map_at new other ≡ map_at (slice_set leaves leaf l) other)
         → IsLeafTable k rows new keys × IsSplit (table_of k ws leaves) (table_of k rows new) leaf
-    halved_is rows new right anchor same two free by stands count salts stay go others =
+    halved_is rows new right anchor live same two free by stands place count salts stay go others =
         let kept = same_written_is same in
         let here : map_at (slice_set leaves leaf l) leaf ≡ old.map = map_written leaves leaf l lt ∙ same in
-        let s = split_stands k ws (slice_set leaves leaf l) keys kept.whole new count (salts salts_after) rows leaf right others
+        let s = split_stands k ws (slice_set leaves leaf l) keys kept.whole new count (salts salts_after) rows leaf right others live place
         (subst (λ (p : Pairs (List ℕ)). 1 < length p) (sym here) (omega (arith, two))) free
         (subst (λ a. StandsFor k rows (with_split (anchors_of k ws) leaf a right)) (by ∙ ap parting (sym here)) stands) stay go in
         (s.0, subst (λ (u : Table). IsSplit u (table_of k rows new) leaf) kept.is s.1)
@@ -143,14 +150,14 @@ module _ (k : Shape) (ws : List ℕ) (leaves : List (LeafMap (List ℕ))) (keys 
         → AreTable k ws (slice_set leaves leaf l) now (record { shape = u.shape; anchors = u.anchors; map = without u.map key })) is (remove_written_is leaf l old lt was salt key now)
 
     -- the leaf is halved
-    pub halved : (same_k : Shape) (rows : List ℕ) (new : List (LeafMap (List ℕ))) (right : ℕ) (anchor : List ℕ) → same_k ≡ k → l.map ≡ old.map → 2 ≤ length old.map → IsFreeLeaf k (anchors_of k ws) right
-        → anchor ≡ parting old.map → StandsFor k rows (with_split (anchors_of k ws) leaf anchor right) → length new ≡ length (slice_set leaves leaf l) → (HaveSalt (slice_set leaves leaf l) k.salt → HaveSalt new k.salt)
+    pub halved : (same_k : Shape) (rows : List ℕ) (new : List (LeafMap (List ℕ))) (right : ℕ) (anchor : List ℕ) → same_k ≡ k → has_leaf t.anchors leaf ≡ true → l.map ≡ old.map → 2 ≤ length old.map → IsFreeLeaf k (anchors_of k ws) right
+        → anchor ≡ parting old.map → StandsFor k rows (with_split (anchors_of k ws) leaf anchor right) → right < length new → length (slice_set leaves leaf l) ≤ length new → (HaveSalt (slice_set leaves leaf l) k.salt → HaveSalt new k.salt)
         → map_at new leaf ≡ take (stay_count (length (map_at (slice_set leaves leaf l) leaf))) (map_at (slice_set leaves leaf l) leaf)
         → map_at new right ≡ drop (stay_count (length (map_at (slice_set leaves leaf l) leaf))) (map_at (slice_set leaves leaf l) leaf)
         → ((other : ℕ) → other ≢ leaf → other ≢ right → map_at new other ≡ map_at (slice_set leaves leaf l) other)
         → IsLeafTable same_k rows new keys × IsSplit t (table_of same_k rows new) leaf
-    halved same_k rows new right anchor e same two free by stands count salts stay go others =
-        let s = halved_is leaf l old lt was salt rows new right anchor same two free by stands count salts stay go others in
+    halved same_k rows new right anchor e live same two free by stands place count salts stay go others =
+        let s = halved_is leaf l old lt was salt rows new right anchor (subst (λ (u : Table). has_leaf u.anchors leaf ≡ true) (sym is) live) same two free by stands place count salts stay go others in
         subst (λ (j : Shape). IsLeafTable j rows new keys × IsSplit t (table_of j rows new) leaf) (sym e) (s.0, subst (λ (u : Table). IsSplit u (table_of k rows new) leaf) is s.1)
 
     -- the parting anchor can stand behind the leaf's
@@ -182,12 +189,14 @@ module _ (k : Shape) (ws : List ℕ) (leaves : List (LeafMap (List ℕ))) (keys 
         let all = whole.few leaf in
         subst (λ (u : Table). length (between old.map from upto) ≤ u.shape.hard) is (omega (arith, few, here, all))
 
+  -- the least leaf that isn't live has its place, or is the next one to get one
+  pub free_next : (right : ℕ) → IsFreeLeaf k (anchors_of k ws) right → right ≤ length leaves
+  free_next zero free = omega arith
+  free_next (suc n) free = let lt = whole.listed n (free.least n (omega arith)) in omega (arith, lt)
+
   -- a leaf that is followed has its place
   pub followed_place : (leaf : ℕ) (next : Option (List ℕ)) → IsFollowed (anchors_of k ws) leaf next → leaf < length leaves
-  followed_place leaf next follows =
-      let h = leaf_in_range k ws leaves keys whole leaf (ap (λ (s : Option Span). is_some s) follows.1) in
-      let count = whole.count in
-      omega (arith, h, count)
+  followed_place leaf next follows = whole.listed leaf (ap (λ (s : Option Span). is_some s) follows.1)
 
   module _ (t : Table) (is : table_of k ws leaves ≡ t) where
     -- all leaves are live
@@ -204,16 +213,10 @@ module _ (k : Shape) (ws : List ℕ) (leaves : List (LeafMap (List ℕ))) (keys 
 
       -- neighbours have their places
       pub left_place : l < length leaves
-      left_place =
-          let h = leaf_in_range k ws leaves keys whole l (adjacent_live (anchors_of k ws) l r whole.stands.anchors.rises next_is).0 in
-          let count = whole.count in
-          omega (arith, h, count)
+      left_place = whole.listed l (adjacent_live (anchors_of k ws) l r whole.stands.anchors.rises next_is).0
 
       pub right_place : r < length leaves
-      right_place =
-          let h = leaf_in_range k ws leaves keys whole r (adjacent_live (anchors_of k ws) l r whole.stands.anchors.rises next_is).1 in
-          let count = whole.count in
-          omega (arith, h, count)
+      right_place = whole.listed r (adjacent_live (anchors_of k ws) l r whole.stands.anchors.rises next_is).1
 
       pub beside_apart : l ≢ r
       beside_apart = adjacent_apart (anchors_of k ws) l r whole.stands.anchors.rises next_is
@@ -234,12 +237,12 @@ module _ (k : Shape) (ws : List ℕ) (leaves : List (LeafMap (List ℕ))) (keys 
           let few = subst (λ (u : Table). size_at u l + size_at u r ≤ u.shape.hard) (sym is) room in
           let left = leaf_size k ws leaves keys whole l in
           let right = leaf_size k ws leaves keys whole r in
-          let s = merge_stands k ws leaves keys whole new count salts rows l r others next_is (omega (arith, few, left, right)) stands taken emptied in
+          let s = merge_stands k ws leaves keys whole new (omega (arith, count)) salts rows l r others next_is (omega (arith, few, left, right)) stands taken emptied in
           subst (λ (j : Shape). IsLeafTable j rows new keys × IsMerged t (table_of j rows new) l r) (sym e) (s.0, subst (λ (u : Table). IsMerged u (table_of k rows new) l r) is s.1)
 
     -- all leaves have the pairs that they had
     pub unchanged : (new : List (LeafMap (List ℕ))) → length new ≡ length leaves → HaveSalt new k.salt → ((leaf : ℕ) → map_at new leaf ≡ map_at leaves leaf) → AreTable k ws new keys t
-    unchanged new count salts same = subst (λ (u : Table). AreTable k ws new keys u) is (same_stands k ws leaves keys whole new count salts same)
+    unchanged new count salts same = subst (λ (u : Table). AreTable k ws new keys u) is (same_stands k ws leaves keys whole new (omega (arith, count)) salts same)
 
   -- a key that is found is counted
   pub counted_some : (t : Table) → table_of k ws leaves ≡ t → (key : List ℕ) → is_some (find t.map key) ≡ true → 0 < keys

@@ -22,16 +22,20 @@ map_at leaves leaf = (slice_index_or leaves leaf no_leaf).map
 abbrev pub HaveSalt : List (LeafMap (List ℕ)) → ℕ → Type 0
 HaveSalt leaves salt = All (λ (l : LeafMap (List ℕ)). l.salt ≡ salt) leaves
 
+-- each live leaf has its place among so many leaves
+abbrev pub AreListed : Anchors → ℕ → Type 0
+AreListed A n = (leaf : ℕ) → has_leaf A leaf ≡ true → leaf < n
+
 -- the table that words and leaves stand for
 abbrev pub table_of : Shape → List ℕ → List (LeafMap (List ℕ)) → Table
 table_of k ws leaves = record { shape = k; anchors = anchors_of k ws; map = joined (anchors_of k ws) (map_at leaves) }
 
--- The words stand for anchors, and the map's pairs are spread over the leaves by these; no leaf has too many keys,
--- and all have the salt of the shape.
+-- The words stand for anchors, whose leaves have their places, and the map's pairs are spread over the leaves by these;
+-- no leaf has too many keys, and all have the salt of the shape.
 pub record IsLeafTable (k : Shape) (ws : List ℕ) (leaves : List (LeafMap (List ℕ))) (keys : ℕ) : Type 0 where
   pub ranges : IsShape k
   pub stands : StandsFor k ws (anchors_of k ws)
-  pub count : length leaves ≡ k.leaves
+  pub listed : AreListed (anchors_of k ws) (length leaves)
   pub salts : HaveSalt leaves k.salt
   pub spread : Spread (anchors_of k ws) (joined (anchors_of k ws) (map_at leaves)) (map_at leaves)
   pub few : (leaf : ℕ) → length (map_at leaves leaf) ≤ k.hard

@@ -10,7 +10,6 @@ mod splits;
 mod table;
 #[cfg(test)]
 mod tests;
-mod values;
 mod writes;
 
 pub use answers::{Neighbours, Place, SplitFault};

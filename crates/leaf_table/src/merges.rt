@@ -1,6 +1,6 @@
 //! Merging two leaves.
 
-ghost use Rattle.std.specs.Prelude.{ℕ, ◌≡◌, ◌≢◌, ◌+◌, ◌<◌, ◌≤◌, ◌⊎◌, ◌++◌, List, [], length, true, None, OnOk, OnErr};
+ghost use Rattle.std.specs.Prelude.{ℕ, ◌≡◌, ◌≢◌, ◌+◌, ◌<◌, ◌≤◌, ◌⊎◌, ◌++◌, List, [], length, true, None, OnOk, OnErr, vec_capacity};
 ghost use Rattle.anchor_rules.specs.Anchors.{adjacent};
 ghost use Rattle.map_model.specs.Maps.{find, sorted};
 ghost use Rattle.leaf_table.specs.Changes.{IsMerged};
@@ -8,7 +8,7 @@ ghost use Rattle.leaf_table.specs.Leaves.{map_at, HaveSalt};
 ghost use Rattle.leaf_table.specs.Table.{size_at};
 
 use crate::LeafTable;
-use crate::values::Value;
+use key_bytes::Bytes;
 use leaf_store::Leaf;
 use meta_trie::remove_anchor;
 use row_words::Rows;
@@ -34,10 +34,10 @@ impl LeafTable {
 
 // Moves the pairs of a leaf to another one, and puts an empty leaf in its place.
 fn join(
-    leaves: &mut Vec<Leaf<Value>>,
+    leaves: &mut Vec<Leaf<Bytes>>,
     left: usize,
     right: usize,
-    empty: Leaf<Value>,
+    empty: Leaf<Bytes>,
 ) -> Result<(), AllocError>
     requires left { left < length leaves.old.items }
     requires right { right < length leaves.old.items }
@@ -49,6 +49,7 @@ fn join(
     ensures others { (other : ℕ) → other ≢ left → other ≢ right → map_at leaves.new.items other ≡ map_at leaves.old.items other }
     ensures refused { OnErr result ((leaf : ℕ) → map_at leaves.new.items leaf ≡ map_at leaves.old.items leaf) }
     ensures count { length leaves.new.items ≡ length leaves.old.items }
+    ensures capacity { vec_capacity leaves.new ≡ vec_capacity leaves.old }
     ensures salts { (salt : ℕ) → HaveSalt leaves.old.items salt → empty.salt ≡ salt → HaveSalt leaves.new.items salt }
 {
     let mut taken = mem::replace(&mut leaves[right], empty);

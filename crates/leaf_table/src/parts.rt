@@ -12,8 +12,7 @@ ghost use Rattle.leaf_table.specs.Facts.{leaf_from, lesser, part_end};
 ghost use Rattle.leaf_table.specs.Spread.{end_bound};
 
 use crate::LeafTable;
-use crate::values::Value;
-use key_bytes::{Bound, Key};
+use key_bytes::{Bound, Bytes, Key};
 use leaf_store::Leaf;
 use map_model::Page;
 use prefix_search::{Located, at_leaf, locate};
@@ -91,7 +90,7 @@ fn lower_end(alloc: Global, next: Option<AnchorWords>, to: &Bound) -> Result<Bou
 
 // Puts the pairs of a leaf between two ends into an empty page, or leaves it empty.
 fn fill(
-    leaf: &mut Leaf<Value>,
+    leaf: &mut Leaf<Bytes>,
     from: &Bound,
     upto: &Bound,
     page: &mut Page,
@@ -108,7 +107,7 @@ fn fill(
 
 // Puts the pairs of a leaf from one place up to another into an empty page, or leaves it empty.
 fn push_pairs(
-    leaf: &Leaf<Value>,
+    leaf: &Leaf<Bytes>,
     start: usize,
     end: usize,
     page: &mut Page,

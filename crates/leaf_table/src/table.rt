@@ -1,6 +1,6 @@
 //! A table with its leaves.
 
-ghost use Rattle.std.specs.Prelude.{ℕ, ◌≡◌, ◌∷◌, [], length, replicate, IfOk, IfErr, OnOk};
+ghost use Rattle.std.specs.Prelude.{ℕ, ◌≡◌, ◌<◌, ◌≤◌, ◌∷◌, [], length, replicate, IfOk, IfErr, OnOk, vec_capacity};
 ghost use Rattle.leaf_store.specs.Leaf.{LeafMap};
 ghost use Rattle.row_words.specs.VecRows.{shape_of, words_of};
 ghost use Rattle.row_words.specs.Shape.{IsShape};
@@ -8,7 +8,7 @@ ghost use Rattle.meta_trie.specs.Stands.{StandsFor};
 ghost use Rattle.leaf_table.specs.Leaves.{map_at, HaveSalt};
 ghost use Rattle.leaf_table.specs.Facts.{IsWhole, IsMakeFault};
 
-use crate::values::Value;
+use key_bytes::Bytes;
 use leaf_store::Leaf;
 use meta_trie::start_zeroed;
 use prefix_search::Hint;
@@ -25,8 +25,9 @@ use std::marker::Model;
 pub struct LeafTable {
     pub(crate) alloc: Global,
     pub(crate) rows: VecRows,
-    /// A leaf for each number that the shape has, live or not.
-    pub(crate) leaves: Vec<Leaf<Value>>,
+    /// The leaves by their numbers: the live ones, and an empty one for each that was merged away
+    /// and isn't live again. They have room for all that the shape has.
+    pub(crate) leaves: Vec<Leaf<Bytes>>,
     /// How many keys the leaves have.
     pub(crate) keys: u64,
     /// All leaves below this number are live, so a split looks for a free one from here on.
@@ -36,6 +37,7 @@ pub struct LeafTable {
 }
 
 impl Model for LeafTable {
+    ghost use Rattle.std.specs.Prelude.{◌≤◌, vec_capacity};
     ghost use Rattle.row_words.specs.VecRows.{shape_of, words_of};
     ghost use Rattle.meta_trie.specs.Stands.{anchors_of};
     ghost use Rattle.leaf_table.specs.Table.{Table};
@@ -45,12 +47,13 @@ impl Model for LeafTable {
 
     ghost view = { λ t. table_of (shape_of t.rows) (words_of t.rows) t.leaves.items };
 
-    ghost invariant = { λ t. IsLeafTable (shape_of t.rows) (words_of t.rows) t.leaves.items t.keys × AreLive (anchors_of (shape_of t.rows) (words_of t.rows)) t.full_below };
+    ghost invariant = { λ t. IsLeafTable (shape_of t.rows) (words_of t.rows) t.leaves.items t.keys × AreLive (anchors_of (shape_of t.rows) (words_of t.rows)) t.full_below × ((shape_of t.rows).leaves ≤ vec_capacity t.leaves) };
 }
 
 impl LeafTable {
     /// A table with no key, whose one leaf is leaf 0. It takes the memory of the shape's rows, eight
-    /// bytes for each word, of which it writes few, and of an empty leaf for each leaf that there may be.
+    /// bytes for each word, and room for each leaf that there may be, without its keys. It writes
+    /// little of both.
     pub fn make(alloc: Global, shape: &Shape) -> Result<LeafTable, MakeFault>
         ensures ok { IfOk result (λ table. table ≡ record { shape = shape.now; anchors = ([], 0) ∷ []; map = [] }) }
         ensures fault { IfErr result (IsMakeFault shape.now) }
@@ -58,7 +61,7 @@ impl LeafTable {
         if let Err(fault) = shape.check() {
             return Err(MakeFault::Shape(fault));
         }
-        match (make_rows(alloc, shape), make_leaves(alloc, shape)) {
+        match (make_rows(alloc, shape), start_leaves(alloc, shape)) {
             (Ok(rows), Ok(leaves)) => Ok(LeafTable {
                 alloc,
                 rows,
@@ -98,15 +101,16 @@ fn make_rows(alloc: Global, shape: &Shape) -> Result<VecRows, AllocError>
     Ok(rows)
 }
 
-// An empty leaf for each number.
-fn make_leaves(alloc: Global, shape: &Shape) -> Result<Vec<Leaf<Value>>, AllocError>
-    ensures count { IfOk result (λ leaves. length leaves.items ≡ shape.now.leaves) }
+// Leaf 0 with no key, and room for all leaves: so no split needs more once it has changed the rows,
+// and what no leaf comes to is never written.
+fn start_leaves(alloc: Global, shape: &Shape) -> Result<Vec<Leaf<Bytes>>, AllocError>
+    requires { IsShape shape.now }
+    ensures first { IfOk result (λ leaves. 0 < length leaves.items) }
+    ensures reserved { IfOk result (λ leaves. shape.now.leaves ≤ vec_capacity leaves) }
     ensures empty { IfOk result (λ leaves. (leaf : ℕ) → map_at leaves.items leaf ≡ []) }
     ensures salts { IfOk result (λ leaves. HaveSalt leaves.items shape.now.salt) }
 {
     let mut leaves = Vec::with_capacity(alloc, shape.leaves as usize)?;
-    for _ in 0..shape.leaves {
-        leaves.push_reserved(Leaf::new(alloc, shape.salt));
-    }
+    leaves.push_reserved(Leaf::new(alloc, shape.salt));
     Ok(leaves)
 }

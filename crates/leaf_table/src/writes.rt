@@ -7,9 +7,8 @@ ghost use Rattle.map_model.specs.Maps.{IsMap, find, with, without};
 ghost use Rattle.leaf_table.specs.Places.{IsPlace};
 ghost use Rattle.leaf_table.specs.Table.{size_at};
 
-use crate::values::Value;
 use crate::{LeafTable, Place};
-use key_bytes::Key;
+use key_bytes::{Bytes, Key};
 use leaf_store::Leaf;
 use std::alloc::{AllocError, Global};
 
@@ -50,7 +49,7 @@ impl LeafTable {
 // Sets the value of a key in a leaf, and says whether the key is new.
 fn put(
     alloc: Global,
-    leaf: &mut Leaf<Value>,
+    leaf: &mut Leaf<Bytes>,
     hash: u64,
     key: &Key,
     bytes: &[u8],
@@ -65,7 +64,7 @@ fn put(
     if write_over(leaf, hash, key, bytes)? {
         return Ok(false);
     }
-    let value = Value::of(alloc, bytes)?;
+    let value = Bytes::of(alloc, bytes)?;
     leaf.reserve_one()?;
     leaf.insert_new(hash, key.copy()?, value);
     Ok(true)
@@ -73,7 +72,7 @@ fn put(
 
 // Writes bytes over the value of a key, where the key is in the leaf, and says whether it is.
 fn write_over(
-    leaf: &mut Leaf<Value>,
+    leaf: &mut Leaf<Bytes>,
     hash: u64,
     key: &Key,
     bytes: &[u8],

@@ -1,4 +1,4 @@
-use Rattle.std.proofs.Common.{◌≡◌, ◌≢◌, ◌∙◌, ℕ, List, length, ap, sym, subst, arith}
+use Rattle.std.proofs.Common.{◌≡◌, ◌≢◌, ◌∙◌, ℕ, List, length, refl, ap, sym, subst, arith}
 use Rattle.std.specs.declared.cmp.Ordering.TheVariants.{Less, Greater}
 use Rattle.key_bytes.specs.Bound.{bound_cmp}
 use Rattle.key_bytes.specs.declared.bound.Bound.{Bound}
@@ -8,7 +8,7 @@ use Rattle.row_words.specs.VecRows.{shape_of, words_of}
 use Rattle.leaf_table.specs.Facts.{part_end}
 use Rattle.leaf_table.proofs.LiveLeaves.{live_moved}
 use Rattle.leaf_table.proofs.PartEnds.{part_end_is, part_end_within}
-use Rattle.leaf_table.proofs.Written.{moved, followed_place, same_written, part_found, part_few, part_above}
+use Rattle.leaf_table.proofs.Written.{moved, room_moved, followed_place, same_written, part_found, part_few, part_above}
 use Rattle.leaf_table.proofs.table.LeafTable.part.Goals as goal
 
 pub index_mut-requires : goal.index_mut-requires
@@ -17,7 +17,7 @@ index_mut-requires c = let lt = followed_place _ _ _ _ c.self.invariant.0 c.loca
 pub invariant_of-self-in_err-fill : goal.invariant_of-self-in_err-fill
 invariant_of-self-in_err-fill c =
     let lt = followed_place _ _ _ _ c.self.invariant.0 c.locate_end-located.result.leaf c.locate_end-located.result.next c.locate_end-located.ensures.next in
-    ((moved _ _ _ _ _ _ _ c.locate_end-located.ensures.shape c.locate_end-located.ensures.words (same_written _ _ _ _ c.self.invariant.0 _ c.self.view_is c.locate_end-located.result.leaf c.fill.new.leaf c.index_mut.result.now lt c.index_mut.ensures.value c.fill.ensures.salt c.fill.ensures.map)).whole, live_moved _ _ _ _ c.locate_end-located.ensures.shape c.self.inside.full_below c.locate_end-located.ensures.words c.self.invariant.1)
+    ((moved _ _ _ _ _ _ _ c.locate_end-located.ensures.shape c.locate_end-located.ensures.words (same_written _ _ _ _ c.self.invariant.0 _ c.self.view_is c.locate_end-located.result.leaf c.fill.new.leaf c.index_mut.result.now lt c.index_mut.ensures.value c.fill.ensures.salt c.fill.ensures.map)).whole, live_moved _ _ _ _ c.locate_end-located.ensures.shape c.self.inside.full_below c.locate_end-located.ensures.words c.self.invariant.1, room_moved _ _ _ _ c.locate_end-located.ensures.shape refl c.self.invariant.2)
 
 pub returns-in_err-fill-clause-same : goal.returns-in_err-fill-clause-same
 returns-in_err-fill-clause-same c =
@@ -27,7 +27,7 @@ returns-in_err-fill-clause-same c =
 pub invariant_of-self-2 : goal.invariant_of-self-2
 invariant_of-self-2 c =
     let lt = followed_place _ _ _ _ c.self.invariant.0 c.locate_end-located.result.leaf c.locate_end-located.result.next c.locate_end-located.ensures.next in
-    ((moved _ _ _ _ _ _ _ c.locate_end-located.ensures.shape c.locate_end-located.ensures.words (same_written _ _ _ _ c.self.invariant.0 _ c.self.view_is c.locate_end-located.result.leaf c.fill.new.leaf c.index_mut.result.now lt c.index_mut.ensures.value c.fill.ensures.salt c.fill.ensures.map)).whole, live_moved _ _ _ _ c.locate_end-located.ensures.shape c.self.inside.full_below c.locate_end-located.ensures.words c.self.invariant.1)
+    ((moved _ _ _ _ _ _ _ c.locate_end-located.ensures.shape c.locate_end-located.ensures.words (same_written _ _ _ _ c.self.invariant.0 _ c.self.view_is c.locate_end-located.result.leaf c.fill.new.leaf c.index_mut.result.now lt c.index_mut.ensures.value c.fill.ensures.salt c.fill.ensures.map)).whole, live_moved _ _ _ _ c.locate_end-located.ensures.shape c.self.inside.full_below c.locate_end-located.ensures.words c.self.invariant.1, room_moved _ _ _ _ c.locate_end-located.ensures.shape refl c.self.invariant.2)
 
 pub returns-clause-same : goal.returns-clause-same
 returns-clause-same c =

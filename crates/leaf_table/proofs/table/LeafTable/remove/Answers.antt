@@ -22,6 +22,7 @@ invariant_of-self c =
       (remove_written _ _ _ _ c.self.invariant.0 _ c.self.view_is c.args.place.leaf c.remove_hashed.new.self c.index_mut-leaf.result.now lt c.index_mut-leaf.ensures.value c.remove_hashed.ensures.salt c.args.key.now (c.self.inside.keys - 1)
           c.requires.leaf c.remove_hashed.ensures.map (count_less _ c.self.inside.keys (sym gone ∙ c.if-gone.true) some)).whole,
       c.self.invariant.1,
+      c.self.invariant.2,
     )
 
 pub invariant_of-self-else-gone : goal.invariant_of-self-else-gone
@@ -31,6 +32,7 @@ invariant_of-self-else-gone c =
       (remove_written _ _ _ _ c.self.invariant.0 _ c.self.view_is c.args.place.leaf c.remove_hashed.new.self c.index_mut-leaf.result.now lt c.index_mut-leaf.ensures.value c.remove_hashed.ensures.salt c.args.key.now (c.self.inside.keys)
           c.requires.leaf c.remove_hashed.ensures.map (count_same _ c.self.inside.keys (sym gone ∙ c.if-gone.false))).whole,
       c.self.invariant.1,
+      c.self.invariant.2,
     )
 
 pub returns-then-gone-clause-map : goal.returns-then-gone-clause-map

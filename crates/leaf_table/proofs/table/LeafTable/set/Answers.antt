@@ -12,7 +12,7 @@ index_mut-leaf-requires c = let h = target_place _ _ _ _ c.self.invariant.0 _ c.
 pub invariant_of-self : goal.invariant_of-self
 invariant_of-self c =
     let lt = target_place _ _ _ _ c.self.invariant.0 _ c.self.view_is c.args.place.leaf c.args.key.now c.requires.place.leaf in
-    ((same_written _ _ _ _ c.self.invariant.0 _ c.self.view_is c.args.place.leaf c.put.new.leaf c.index_mut-leaf.result.now lt c.index_mut-leaf.ensures.value c.put.ensures.salt c.in_err-new.ensures.refused).whole, c.self.invariant.1)
+    ((same_written _ _ _ _ c.self.invariant.0 _ c.self.view_is c.args.place.leaf c.put.new.leaf c.index_mut-leaf.result.now lt c.index_mut-leaf.ensures.value c.put.ensures.salt c.in_err-new.ensures.refused).whole, c.self.invariant.1, c.self.invariant.2)
 
 pub returns-in_err-new-clause-refused : goal.returns-in_err-new-clause-refused
 returns-in_err-new-clause-refused c =
@@ -37,6 +37,7 @@ invariant_of-self-then-new c =
       (set_written _ _ _ _ c.self.invariant.0 _ c.self.view_is c.args.place.leaf c.put.new.leaf c.index_mut-leaf.result.now lt c.index_mut-leaf.ensures.value c.put.ensures.salt c.args.key.now c.args.value.now (c.self.inside.keys + 1)
           c.requires.place.leaf c.in_ok-new.ensures.map c.requires.room (count_new _ c.self.inside.keys (sym new ∙ c.if-new.true))).whole,
       c.self.invariant.1,
+      c.self.invariant.2,
     )
 
 pub invariant_of-self-else-new : goal.invariant_of-self-else-new
@@ -46,6 +47,7 @@ invariant_of-self-else-new c =
       (set_written _ _ _ _ c.self.invariant.0 _ c.self.view_is c.args.place.leaf c.put.new.leaf c.index_mut-leaf.result.now lt c.index_mut-leaf.ensures.value c.put.ensures.salt c.args.key.now c.args.value.now (c.self.inside.keys)
           c.requires.place.leaf c.in_ok-new.ensures.map c.requires.room (count_old _ c.self.inside.keys (sym new ∙ c.if-new.false))).whole,
       c.self.invariant.1,
+      c.self.invariant.2,
     )
 
 pub returns-then-new-clause-ok : goal.returns-then-new-clause-ok

@@ -1,4 +1,4 @@
-use Rattle.std.proofs.Common.{◌≡◌, ◌∙◌, ℕ, List, length, true, ap, subst, arith}
+use Rattle.std.proofs.Common.{◌≡◌, ◌∙◌, ℕ, List, length, true, refl, ap, subst, arith}
 use Rattle.std.proofs.lemmas.List.{length-set}
 use Rattle.anchor_rules.specs.Anchors.{Anchors, has_leaf}
 use Rattle.leaf_store.specs.Leaf.{LeafMap}
@@ -9,7 +9,7 @@ use Rattle.leaf_table.specs.Table.{size_at}
 use Rattle.leaf_table.proofs.LiveLeaves.{live_moved, live_split}
 use Rattle.meta_trie.proofs.OnlyOne.{stands_only}
 use Rattle.leaf_table.proofs.Readings.{live_place, size_read}
-use Rattle.leaf_table.proofs.Written.{on_err, if_err, moved, moved_split, split_told, full_told, same_written, parts, halved, lacks_items, lacks_leaves}
+use Rattle.leaf_table.proofs.Written.{on_err, if_err, moved, moved_split, room_moved, free_next, split_told, full_told, same_written, parts, halved, lacks_items, lacks_leaves}
 use Rattle.leaf_table.proofs.table.LeafTable.split.Goals as goal
 
 pub returns-in_err-right-clause-fault : goal.returns-in_err-right-clause-fault
@@ -36,7 +36,7 @@ part_of-requires c =
 pub invariant_of-self-in_err-parting : goal.invariant_of-self-in_err-parting
 invariant_of-self-in_err-parting c =
     let lt = live_place _ _ _ _ c.self.invariant.0 _ c.self.view_is c.args.leaf c.requires.live in
-    ((moved _ _ _ _ _ _ _ c.free_leaf_from.ensures.shape c.free_leaf_from.ensures.words (same_written _ _ _ _ c.self.invariant.0 _ c.self.view_is c.args.leaf c.part_of.new.leaf c.index_mut.result.now lt c.index_mut.ensures.value c.part_of.ensures.salt c.part_of.ensures.map)).whole, live_moved _ _ _ _ c.free_leaf_from.ensures.shape c.self.inside.full_below c.free_leaf_from.ensures.words c.self.invariant.1)
+    ((moved _ _ _ _ _ _ _ c.free_leaf_from.ensures.shape c.free_leaf_from.ensures.words (same_written _ _ _ _ c.self.invariant.0 _ c.self.view_is c.args.leaf c.part_of.new.leaf c.index_mut.result.now lt c.index_mut.ensures.value c.part_of.ensures.salt c.part_of.ensures.map)).whole, live_moved _ _ _ _ c.free_leaf_from.ensures.shape c.self.inside.full_below c.free_leaf_from.ensures.words c.self.invariant.1, room_moved _ _ _ _ c.free_leaf_from.ensures.shape refl c.self.invariant.2)
 
 pub returns-in_err-parting-clause-refused : goal.returns-in_err-parting-clause-refused
 returns-in_err-parting-clause-refused c =
@@ -55,10 +55,16 @@ halve-requires-clause-left c =
     let n = length-set c.self.inside.leaves.items c.args.leaf c.part_of.new.leaf in
     omega (arith, lt, n)
 
+pub halve-requires-clause-right : goal.halve-requires-clause-right
+halve-requires-clause-right c =
+    let next = free_next _ _ _ _ c.self.invariant.0 c.in_ok-right.right (c.in_ok-right.ensures.ok _ c.self.invariant.0.stands) in
+    let n = length-set c.self.inside.leaves.items c.args.leaf c.part_of.new.leaf in
+    omega (arith, next, n)
+
 pub invariant_of-self-in_err-add_anchor : goal.invariant_of-self-in_err-add_anchor
 invariant_of-self-in_err-add_anchor c =
     let lt = live_place _ _ _ _ c.self.invariant.0 _ c.self.view_is c.args.leaf c.requires.live in
-    ((moved _ _ _ _ _ _ _ (c.add_anchor.ensures.shape ∙ c.free_leaf_from.ensures.shape) (c.in_err-add_anchor.ensures.unchanged ∙ c.free_leaf_from.ensures.words) (same_written _ _ _ _ c.self.invariant.0 _ c.self.view_is c.args.leaf c.part_of.new.leaf c.index_mut.result.now lt c.index_mut.ensures.value c.part_of.ensures.salt c.part_of.ensures.map)).whole, live_moved _ _ _ _ (c.add_anchor.ensures.shape ∙ c.free_leaf_from.ensures.shape) c.self.inside.full_below (c.in_err-add_anchor.ensures.unchanged ∙ c.free_leaf_from.ensures.words) c.self.invariant.1)
+    ((moved _ _ _ _ _ _ _ (c.add_anchor.ensures.shape ∙ c.free_leaf_from.ensures.shape) (c.in_err-add_anchor.ensures.unchanged ∙ c.free_leaf_from.ensures.words) (same_written _ _ _ _ c.self.invariant.0 _ c.self.view_is c.args.leaf c.part_of.new.leaf c.index_mut.result.now lt c.index_mut.ensures.value c.part_of.ensures.salt c.part_of.ensures.map)).whole, live_moved _ _ _ _ (c.add_anchor.ensures.shape ∙ c.free_leaf_from.ensures.shape) c.self.inside.full_below (c.in_err-add_anchor.ensures.unchanged ∙ c.free_leaf_from.ensures.words) c.self.invariant.1, room_moved _ _ _ _ (c.add_anchor.ensures.shape ∙ c.free_leaf_from.ensures.shape) refl c.self.invariant.2)
 
 pub returns-in_err-add_anchor-clause-refused : goal.returns-in_err-add_anchor-clause-refused
 returns-in_err-add_anchor-clause-refused c =
@@ -76,20 +82,21 @@ pub invariant_of-self-2 : goal.invariant_of-self-2
 invariant_of-self-2 c =
     let lt = live_place _ _ _ _ c.self.invariant.0 _ c.self.view_is c.args.leaf c.requires.live in
     let n : length c.index_mut.result.now.map ≡ size_at c.args.self.now c.args.leaf = ap (λ (l : LeafMap (List ℕ)). length l.map) c.index_mut.ensures.value ∙ size_read _ _ _ _ c.self.invariant.0 _ c.self.view_is c.args.leaf _ lt in
-    let room : c.in_ok-parting.parting.room.salt ≡ (shape_of c.self.inside.rows).salt = c.in_ok-parting.ensures.salted ∙ (c.salt-salt.ensures ∙ ap (λ (k : Shape). k.salt) c.free_leaf_from.ensures.shape) in
+    let room : c.in_ok-parting.parting.room.salt ≡ (shape_of c.self.inside.rows).salt = c.in_ok-parting.ensures.salted ∙ ap (λ (k : Shape). k.salt) (c.layout-shape.ensures ∙ c.free_leaf_from.ensures.shape) in
     let added = split_told _ _ _ _ (words_of c.add_anchor.new.rows) c.args.leaf c.in_ok-right.right c.in_ok-parting.parting.anchor c.free_leaf_from.ensures.shape c.free_leaf_from.ensures.words c.in_ok-add_anchor.ensures.ok in (
       (halved _ _ _ _ c.self.invariant.0 _ c.self.view_is c.args.leaf c.part_of.new.leaf c.index_mut.result.now lt c.index_mut.ensures.value c.part_of.ensures.salt (shape_of c.add_anchor.new.rows) (words_of c.add_anchor.new.rows) c.halve.new.leaves.items c.in_ok-right.right c.in_ok-parting.parting.anchor
-          (c.add_anchor.ensures.shape ∙ c.free_leaf_from.ensures.shape) c.part_of.ensures.map (omega (arith, n, c.requires.two)) (c.in_ok-right.ensures.ok _ c.self.invariant.0.stands) c.in_ok-parting.ensures.anchor (added _ c.self.invariant.0.stands)
-          c.halve.ensures.count (λ all. c.halve.ensures.salts _ all room) c.halve.ensures.stay c.halve.ensures.go c.halve.ensures.others).0,
+          (c.add_anchor.ensures.shape ∙ c.free_leaf_from.ensures.shape) c.requires.live c.part_of.ensures.map (omega (arith, n, c.requires.two)) (c.in_ok-right.ensures.ok _ c.self.invariant.0.stands) c.in_ok-parting.ensures.anchor (added _ c.self.invariant.0.stands)
+          c.halve.ensures.listed c.halve.ensures.kept (λ all. c.halve.ensures.salts _ all room) c.halve.ensures.stay c.halve.ensures.go c.halve.ensures.others).0,
       live_split _ _ _ _ (c.add_anchor.ensures.shape ∙ c.free_leaf_from.ensures.shape) _ _ c.self.view_is c.args.leaf c.in_ok-right.right c.in_ok-parting.parting.anchor c.requires.live (c.in_ok-right.ensures.ok _ c.self.invariant.0.stands) (added _ c.self.invariant.0.stands),
+      room_moved _ _ _ _ (c.add_anchor.ensures.shape ∙ c.free_leaf_from.ensures.shape) c.halve.ensures.capacity c.self.invariant.2,
     )
 
 pub returns-clause-ok : goal.returns-clause-ok
 returns-clause-ok c =
     let lt = live_place _ _ _ _ c.self.invariant.0 _ c.self.view_is c.args.leaf c.requires.live in
     let n : length c.index_mut.result.now.map ≡ size_at c.args.self.now c.args.leaf = ap (λ (l : LeafMap (List ℕ)). length l.map) c.index_mut.ensures.value ∙ size_read _ _ _ _ c.self.invariant.0 _ c.self.view_is c.args.leaf _ lt in
-    let room : c.in_ok-parting.parting.room.salt ≡ (shape_of c.self.inside.rows).salt = c.in_ok-parting.ensures.salted ∙ (c.salt-salt.ensures ∙ ap (λ (k : Shape). k.salt) c.free_leaf_from.ensures.shape) in
+    let room : c.in_ok-parting.parting.room.salt ≡ (shape_of c.self.inside.rows).salt = c.in_ok-parting.ensures.salted ∙ ap (λ (k : Shape). k.salt) (c.layout-shape.ensures ∙ c.free_leaf_from.ensures.shape) in
     let added = split_told _ _ _ _ (words_of c.add_anchor.new.rows) c.args.leaf c.in_ok-right.right c.in_ok-parting.parting.anchor c.free_leaf_from.ensures.shape c.free_leaf_from.ensures.words c.in_ok-add_anchor.ensures.ok in
     (halved _ _ _ _ c.self.invariant.0 _ c.self.view_is c.args.leaf c.part_of.new.leaf c.index_mut.result.now lt c.index_mut.ensures.value c.part_of.ensures.salt (shape_of c.add_anchor.new.rows) (words_of c.add_anchor.new.rows) c.halve.new.leaves.items c.in_ok-right.right c.in_ok-parting.parting.anchor
-    (c.add_anchor.ensures.shape ∙ c.free_leaf_from.ensures.shape) c.part_of.ensures.map (omega (arith, n, c.requires.two)) (c.in_ok-right.ensures.ok _ c.self.invariant.0.stands) c.in_ok-parting.ensures.anchor (added _ c.self.invariant.0.stands)
-    c.halve.ensures.count (λ all. c.halve.ensures.salts _ all room) c.halve.ensures.stay c.halve.ensures.go c.halve.ensures.others).1
+    (c.add_anchor.ensures.shape ∙ c.free_leaf_from.ensures.shape) c.requires.live c.part_of.ensures.map (omega (arith, n, c.requires.two)) (c.in_ok-right.ensures.ok _ c.self.invariant.0.stands) c.in_ok-parting.ensures.anchor (added _ c.self.invariant.0.stands)
+    c.halve.ensures.listed c.halve.ensures.kept (λ all. c.halve.ensures.salts _ all room) c.halve.ensures.stay c.halve.ensures.go c.halve.ensures.others).1
