@@ -1,6 +1,7 @@
 #!/usr/bin/env python3
 """Times `worm run` beside a peer in Rust's std, in alternation, on files and through pipes, and compares what they
-write byte for byte. It prints a table of medians, spreads and ratios. `run.py [ROUNDS]`, at least 5 rounds.
+write byte for byte. It prints a table of medians, spreads and ratios. `run.py [ROUNDS]`, at least 5 rounds, and ten times
+as many of a script that is over in a moment.
 
 The peer is built by `rustc -O`. The environment's WORM names another binary of the program than the one that
 `./worm` builds."""
@@ -20,6 +21,10 @@ HERE = os.path.dirname(os.path.abspath(__file__))
 TOP = os.path.dirname(HERE)
 BUILD = os.path.join(HERE, "build")
 LEAST_ROUNDS = 5
+
+# A run of less than so many seconds strays more, and is made so many times as often.
+SHORT = 0.05
+SHORT_ROUNDS = 10
 
 
 def end(text):
@@ -90,10 +95,20 @@ def row(name, way, worm, peer):
         clock = [clock for clock, _ in times]
         cells.append(f"{statistics.median(clock):.3f}")
         cells.append(f"{100 * spread(clock):.0f} %")
+    # The two runs of a round stand beside each other, so that a machine that changes its speed now and then has
+    # the same speed in most pairs.
     for kind in (0, 1):
-        medians = [statistics.median(run[kind] for run in times) for times in (worm, peer)]
-        cells.append(f"{medians[0] / medians[1]:.2f}")
+        ratio = statistics.median(ours[kind] / theirs[kind] for ours, theirs in zip(worm, peer))
+        cells.append(f"{ratio:.2f}")
     return "| " + " | ".join(cells) + " |"
+
+
+def are_enough(times, rounds):
+    """Whether there are as many rounds as this script wants."""
+    if not times["peer"]:
+        return False
+    first, _ = times["peer"][0]
+    return len(times["peer"]) >= (rounds if first >= SHORT else SHORT_ROUNDS * rounds)
 
 
 def machine():
@@ -115,14 +130,14 @@ def main():
     worm = find_worm()
     scripts = write_scripts(BUILD)
     outputs = {program: os.path.join(BUILD, program + ".out") for program in ("worm", "peer")}
-    print(f"{machine()}, {rounds} rounds each\n")
+    print(f"{machine()}, {rounds} rounds each, {SHORT_ROUNDS * rounds} of short scripts\n")
     print("| script | on | worm, s | strays | peer, s | strays | worm / peer, clock | worm / peer, processor |")
     print("|---|---|---|---|---|---|---|---|", flush=True)
     for name, script in scripts.items():
         _, options = SCRIPTS[name]
         for way, timed in (("files", on_files), ("pipes", on_pipes)):
             times = {"worm": [], "peer": []}
-            for _ in range(rounds):
+            while not are_enough(times, rounds):
                 times["worm"].append(timed(worm + options, script, outputs["worm"]))
                 times["peer"].append(timed(peer, script, outputs["peer"]))
                 if not filecmp.cmp(outputs["worm"], outputs["peer"], shallow=False):
