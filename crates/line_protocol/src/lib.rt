@@ -13,6 +13,7 @@ mod read;
 mod reply_line;
 mod request;
 mod scan;
+mod scan_end;
 #[cfg(test)]
 mod tests;
 mod value;
@@ -24,4 +25,5 @@ pub use laws::{escaped_words, one_line, request_again, unescape_again, worked_li
 pub use line_reader::{Event, Lines, Taken, read_all};
 pub use read::read_request;
 pub use request::Request;
+pub use scan_end::ScanEnd;
 pub use value::Value;

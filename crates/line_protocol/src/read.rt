@@ -6,13 +6,13 @@ ghost use Rattle.line_protocol.specs.Requests.{AsksRequest, request, asked, put,
 
 use crate::parts::{read_end, read_key, read_limit, read_value};
 use crate::words::{first_word, one_word, three_words, two_words};
-use crate::{Fault, Request, RequestFault};
+use crate::{Fault, Request, RequestFault, ScanEnd};
 use key_bytes::Bound;
 use std::alloc::Global;
 
 /// The request of a line, or none for the empty one. A line with several faults has the first of
 /// them in the order of their numbers, and of two faulty keys the first. What is copied are keys and
-/// the value where it has escapes, once each.
+/// the value where it has escapes, once each; each end of a scan takes an allocation besides.
 pub fn read_request(alloc: Global, line: &[u8]) -> Result<Option<Request<'_>>, RequestFault>
     requires { length line.now ≤ 4096 }
     ensures answers { Answers result (request line.now) }
@@ -96,6 +96,8 @@ fn read_scan(alloc: Global, rest: Option<&[u8]>) -> Result<Option<Request<'_>>, 
             let from = read_end(alloc, from, Bound::Low)?;
             let to = read_end(alloc, to, Bound::High)?;
             let limit = read_limit(limit)?;
+            let from = ScanEnd::of(alloc, from)?;
+            let to = ScanEnd::of(alloc, to)?;
             Ok(Some(Request::Scan(from, to, limit)))
         }
     }

@@ -1,5 +1,4 @@
 //! Lines of words and numbers, appended whole or not at all.
-ghost use Rattle.std.specs.Prelude.{◌≡◌, ◌++◌};
 ghost use Rattle.line_protocol.specs.ReplyLine.{Appends, AppendsAll, number_line, word_line, nows};
 
 use crate::escape::escape_into;

@@ -1,6 +1,6 @@
 //! A request.
-use crate::Value;
-use key_bytes::{Bound, Key};
+use crate::{ScanEnd, Value};
+use key_bytes::Key;
 
 /// What a line asks for. It lends the value of a put from the line.
 #[derive(Debug, Drop)]
@@ -12,7 +12,7 @@ pub enum Request<'a> {
     /// Takes the key away.
     Del(Key),
     /// Asks for at most so many pairs from the first end, included, to the second, excluded.
-    Scan(Bound, Bound, u32),
+    Scan(ScanEnd, ScanEnd, u32),
     /// Ends the session.
     Quit,
 }

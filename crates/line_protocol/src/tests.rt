@@ -54,8 +54,8 @@ fn describe(
         }
         Ok(Some(Request::Scan(from, to, limit))) => {
             out.extend_from_slice(b"scan")?;
-            push_end(out, &from)?;
-            push_end(out, &to)?;
+            push_end(out, from.get())?;
+            push_end(out, to.get())?;
             let mut buffer = itoa::Buffer::new();
             push(out, buffer.format(limit).as_bytes())
         }

@@ -1,6 +1,5 @@
 //! Calls that are made again while patience lasts.
 ghost use Rattle.std.specs.Prelude.{◌≡◌, ◌≤◌, ◌≢◌, ◌++◌, ◌∷◌, [], OnErr, IfOk, length, List, IsTrue};
-ghost use Rattle.std.specs.Bool.{OnFalse};
 ghost use Rattle.key_bytes.specs.Bound.{bound_cmp};
 ghost use Rattle.map_model.specs.Calls.{Get, Put, Del, Part, Pairs, answer_of};
 ghost use Rattle.map_model.specs.History.{Entry, after, entry_of};

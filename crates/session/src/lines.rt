@@ -49,7 +49,8 @@ pub(crate) fn serve_request<O: Ordered, K: Sink, P: Patience>(
         Request::Get(key) => serve_get(store, sink, patience, buffers, &key),
         Request::Del(key) => serve_del(store, sink, patience, buffers, &key),
         Request::Scan(from, to, most) => {
-            serve_scan(store, sink, patience, buffers, from, &to, most)
+            let from = from.into_bound();
+            serve_scan(store, sink, patience, buffers, from, to.get(), most)
         }
         Request::Quit => reply(sink, &mut buffers.reply, &Answer::Bye),
     }

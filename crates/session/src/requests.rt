@@ -1,6 +1,5 @@
 //! Requests that are served by one call, or by none.
 ghost use Rattle.std.specs.Prelude.{◌≡◌, ◌≤◌, ◌∷◌, [], length, List, Ok, Err, Some};
-ghost use Rattle.line_protocol.specs.Requests.{IsRequest};
 ghost use Rattle.line_protocol.specs.declared.request.Request.TheVariants as asks;
 ghost use Rattle.map_model.specs.History.{Entry};
 ghost use Rattle.outside.specs.Causes.{FaultsCounted};

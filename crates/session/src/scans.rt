@@ -14,7 +14,6 @@ use key_bytes::Bound;
 use line_protocol::Answer;
 use map_model::Ordered;
 use outside::{Sink, Stop};
-use std::cmp::Ordering;
 
 // Whether no further part is asked for.
 fn is_over(more: bool, left: usize) -> bool

@@ -1,5 +1,5 @@
 //! A session from its first read to its end.
-ghost use Rattle.std.specs.Prelude.{◌≡◌, ◌<◌, ◌≤◌, List, length};
+ghost use Rattle.std.specs.Prelude.{◌≡◌, ◌<◌, List, length};
 ghost use Rattle.std.specs.Io.{ReadsAtMost};
 ghost use Rattle.counts.specs.Counts.{Rose};
 ghost use Rattle.map_model.specs.History.{Entry};

@@ -1,5 +1,5 @@
 //! Lines that are written.
-ghost use Rattle.std.specs.Prelude.{◌≡◌, ◌≤◌, length, take, min, IfOk};
+ghost use Rattle.std.specs.Prelude.{◌≡◌, length, take, min, IfOk};
 ghost use Rattle.line_protocol.specs.Texts.{text};
 ghost use Rattle.outside.specs.Causes.{FaultsCounted};
 ghost use Rattle.session.specs.Replies.{refusal_line, pair_lines};

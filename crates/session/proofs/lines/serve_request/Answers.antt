@@ -18,7 +18,9 @@ returns-in-Del-clause-served g c =
 
 pub returns-in-Scan-clause-served : goal.returns-in-Scan-clause-served
 returns-in-Scan-clause-served g c =
-    transcribes_told _ _ _ _ _ _ _ _ _ _ _ _ _ _ (λ xs p. p ∙ one_asked _ c.args.request (sym c.in-Scan.is)) (λ xs p. p) c.serve_scan.ensures.served
+    transcribes_told _ _ _ _ _ _ _ _ _ _ _ _ _ _ (λ xs p. p ∙ one_asked _ c.args.request
+    (ap (λ f. asks.Scan f c.get-in-Scan.result.now c.in-Scan.most) c.into_bound-from.ensures ∙ (ap (λ t. asks.Scan c.in-Scan.from t c.in-Scan.most) c.get-in-Scan.ensures ∙ sym c.in-Scan.is)))
+    (λ xs p. p) c.serve_scan.ensures.served
 
 pub returns-in-Quit-clause-served : goal.returns-in-Quit-clause-served
 returns-in-Quit-clause-served g c =
