@@ -1,10 +1,11 @@
 -- Where the ends of a range cut a map, and where rows are cut in two.
-use Rattle.std.proofs.Common.{◌≡◌, ℕ, zero, suc, ◌-◌, ◌<◌, ◌≤◌, List, [], ◌∷◌, ◌++◌, Bool, true, false, cond, not, ◌&&◌, refl, sym, ap, ◌∙◌, subst, length, get_or, take, drop, arith, inl, inr}
+use Rattle.std.proofs.Common.{◌≡◌, ℕ, zero, suc, ◌-◌, ◌<◌, ◌≤◌, List, [], ◌∷◌, ◌++◌, Bool, true, false, cond, not, ◌&&◌, refl, sym, ap, ◌∙◌, subst, length, get_or, take, drop, reverse, arith, inl, inr}
 use Rattle.std.specs.Prelude.{filter}
 use Rattle.std.specs.List.{AllByRecursion, AllWithin}
 use Rattle.std.specs.List.Sorted.{IsPartitionedBy}
 use Rattle.std.proofs.Math.Seq.{take-append_seam, drop-append_seam}
 use Rattle.std.proofs.lemmas.Bool.{cases_lt}
+use Rattle.std.proofs.lemmas.List.{reverse-append, reverse-reverse}
 use Rattle.std.proofs.lemmas.List.Elements.{All-from_recursion}
 use Rattle.key_bytes.specs.Order.{is_below}
 use Rattle.key_bytes.specs.Bound.{is_under}
@@ -30,6 +31,10 @@ first_part xs ys all n whole size = sym (take-append_seam xs ys) ∙ (ap (λ k. 
 
 pub second_part : {X : Type 0} (xs ys all : List X) (n : ℕ) → xs ++ ys ≡ all → length xs ≡ n → ys ≡ drop n all
 second_part xs ys all n whole size = sym (drop-append_seam xs ys) ∙ (ap (λ k. drop k (xs ++ ys)) size ∙ ap (drop n) whole)
+
+-- what lies before a list that is turned, where both together are a list that is turned
+pub turned_parts : {X : Type 0} (front back all : List X) → front ++ reverse back ≡ reverse all → back ++ reverse front ≡ all
+turned_parts front back all whole = ap (λ xs. xs ++ reverse front) (sym (reverse-reverse back)) ∙ (sym (reverse-append front (reverse back)) ∙ (ap reverse whole ∙ reverse-reverse all))
 
 second_fails : (a b : Bool) → b ≡ false → (not a && b) ≡ false
 second_fails true b h = refl

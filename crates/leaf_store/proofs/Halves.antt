@@ -37,8 +37,8 @@ module _ {V : Type 0} where
       order = λ _. both_ascend.0;
     }
 
-    pub right_leaf : AreOnce rows → (salt : ℕ) (pairs : List (ℕ × ℕ)) → AreTags salt (drop n rows) pairs → IsLeaf salt (drop n rows) pairs true
-    right_leaf once salt pairs tags = record {
+    pub right_leaf : AreOnce rows → (salt : ℕ) (pairs : List (ℕ × ℕ)) → AreTags salt (drop n rows) pairs → (ordered : Bool) → IsLeaf salt (drop n rows) pairs ordered
+    right_leaf once salt pairs tags ordered = record {
       keys = (once_parts (take n rows) (drop n rows) (subst AreOnce (sym (take-append-drop n rows)) once)).1;
       tags = tags;
       order = λ _. both_ascend.1;

@@ -4,10 +4,12 @@ use Rattle.key_bytes.specs.Order.{is_same}
 use Rattle.leaf_store.specs.Tag.{tag_of}
 use Rattle.map_model.specs.Maps.{Pairs, IsMap}
 
+-- 1 for a truth, so that truths can be counted
 abbrev pub bit : Bool → ℕ
 bit true = 1
 bit false = 0
 
+-- the sum of f over a list
 abbrev pub total : {X : Type 0} → (X → ℕ) → List X → ℕ
 total f [] = 0
 total f (x ∷ xs) = f x + total f xs
@@ -20,6 +22,7 @@ many {V} key rows = total (λ (p : List ℕ × V). bit (is_same p.0 key)) rows
 abbrev pub AreOnce : {V : Type 0} → Pairs V → Type 0
 AreOnce rows = (key : List ℕ) → many key rows ≤ 1
 
+-- whether two pairs of numbers are the same
 abbrev pub is_pair : ℕ × ℕ → ℕ × ℕ → Bool
 is_pair p q = (p.0 == q.0) && (p.1 == q.1)
 
@@ -36,6 +39,7 @@ places salt i (row ∷ rows) = (tag_of salt row.0, i) ∷ places salt (i + 1) ro
 abbrev pub AreTags : {V : Type 0} → ℕ → Pairs V → List (ℕ × ℕ) → Type 0
 AreTags salt rows pairs = (q : ℕ × ℕ) → times q pairs ≡ times q (places salt 0 rows)
 
+-- rows and tags fit together, and the rows ascend where they are said to
 pub record IsLeaf {V : Type 0} (salt : ℕ) (rows : Pairs V) (pairs : List (ℕ × ℕ)) (ordered : Bool) : Type 0 where
   pub keys : AreOnce rows
   pub tags : AreTags salt rows pairs

@@ -9,7 +9,7 @@ ghost use Rattle.key_bytes.specs.Fnv.{prefix_hash};
 ghost use Rattle.leaf_store.specs.Lent.{LendsValue};
 ghost use Rattle.leaf_store.specs.Tag.{tag_of};
 
-use crate::order::{count_under, move_tail};
+use crate::order::{count_under, move_head, move_tail};
 use crate::ranks::settle;
 use crate::rows::{add_tags, cut_tags, first_bits, place_of, take_tag};
 use key_bytes::{Bound, Key, prefix_hash};
@@ -222,8 +222,9 @@ impl<V> Leaf<V> {
     /// included, to `upto`, excluded. Where `from` is above `upto` the first place is above the
     /// second, and there are no such pairs.
     ///
-    /// A sort takes up to 18 bytes for each row while it runs, and is slower where there is no memory
-    /// for them, so this call never fails today. Rows that are in order cost two binary searches.
+    /// A sort takes 18 bytes for each row while it runs, and what std's stable sort takes itself. It is
+    /// slower where there is no memory for them, so this call never fails today. Rows that are in order
+    /// cost two binary searches.
     pub fn pairs_between(
         &mut self,
         from: &Bound,
@@ -289,6 +290,31 @@ impl<V> Leaf<V> {
         move_tail(&mut self.rows, stay, &mut right.rows);
         right.ordered = true;
         Ok(())
+    }
+
+    /// Cuts the leaf as [`Leaf::split_off`] does, but its upper half stays, and the lower half goes to
+    /// `left`, which has the same salt. Both are in order afterwards.
+    ///
+    /// So the memory of the leaf stays with the upper half, where keys go on that come in their order,
+    /// and the lower half has no more room for rows than `left` has. While rows move, the upper half is
+    /// laid aside; without memory for that this call is slower, so it never fails. No key is hashed.
+    pub fn split_front(&mut self, left: &mut Leaf<V>)
+    where
+        V: Drop,
+        requires empty { left.old.map ≡ [] }
+        requires salt { left.old.salt ≡ self.old.salt }
+        requires room { (length self.old.map + 1) / 2 ≤ left.old.spare }
+        ensures stay { self.new.map ≡ drop ((length self.old.map + 1) / 2) self.old.map }
+        ensures go { left.new.map ≡ take ((length self.old.map + 1) / 2) self.old.map }
+        ensures salts { (self.new.salt ≡ self.old.salt) × (left.new.salt ≡ left.old.salt) }
+        ensures ordered { IsTrue self.new.is_ordered × IsTrue left.new.is_ordered }
+    {
+        self.put_in_order();
+        let go = self.rows.len() - self.rows.len() / 2;
+        self.tags.split_off(go, &mut left.tags);
+        mem::swap(&mut self.tags, &mut left.tags);
+        move_head(&mut self.rows, go, &mut left.rows);
+        left.ordered = true;
     }
 
     /// Takes in all pairs of `right`, which is empty afterwards and keeps its room.

@@ -1,4 +1,6 @@
 //! Leaves against maps of the standard library.
+ghost use Rattle.std.specs.Prelude.{◌≡◌, IfOk};
+
 use super::*;
 use crate::rows::tag_of;
 use std::collections::BTreeMap;
@@ -73,17 +75,24 @@ fn generated_calls_agree_with_a_map(rt: HostRuntime) -> Result<(), Fail> {
     Ok(())
 }
 
+// A leaf of the keys 1 to 5, which came in another order.
+fn five_keys(alloc: Global) -> Result<Leaf<u32>, Fail>
+    ensures salt { IfOk result (λ leaf. leaf.salt ≡ 0) }
+{
+    let mut leaf = Leaf::new(alloc, 0);
+    leaf.reserve(5)?;
+    leaf.insert_reserved(key_of(alloc, 4)?, 40);
+    leaf.insert_reserved(key_of(alloc, 2)?, 20);
+    leaf.insert_reserved(key_of(alloc, 5)?, 50);
+    leaf.insert_reserved(key_of(alloc, 1)?, 10);
+    leaf.insert_reserved(key_of(alloc, 3)?, 30);
+    Ok(leaf)
+}
+
 // Five keys are cut into three and two, which then move into a leaf of another salt.
 #[test]
 fn halves_move_with_ample_memory(rt: HostRuntime) -> Result<(), Fail> {
-    let mut left = Leaf::new(rt.alloc(), 0);
-    left.reserve(5)?;
-    left.insert_reserved(key_of(rt.alloc(), 4)?, 40);
-    left.insert_reserved(key_of(rt.alloc(), 2)?, 20);
-    left.insert_reserved(key_of(rt.alloc(), 5)?, 50);
-    left.insert_reserved(key_of(rt.alloc(), 1)?, 10);
-    left.insert_reserved(key_of(rt.alloc(), 3)?, 30);
-
+    let mut left = five_keys(rt.alloc())?;
     let mut right = Leaf::new(rt.alloc(), 7);
     right.reserve(left.len())?;
     left.split_off(&mut right)?;
@@ -97,6 +106,23 @@ fn halves_move_with_ample_memory(rt: HostRuntime) -> Result<(), Fail> {
     assert_eq!(rt; whole.len(), 2);
     assert_eq!(rt; right.len(), 0);
     assert_eq!(rt; whole.find(&key_of(rt.alloc(), 5)?), Some(&50));
+    Ok(())
+}
+
+// Five keys are cut into two and three, which move with their tags.
+#[test]
+fn lower_half_moves_under_one_salt(rt: HostRuntime) -> Result<(), Fail> {
+    let mut right = five_keys(rt.alloc())?;
+    let mut left = Leaf::new(rt.alloc(), 0);
+    left.reserve(right.len())?;
+    right.split_front(&mut left);
+    assert_eq!(rt; left.len(), 3);
+    assert_eq!(rt; right.len(), 2);
+    assert_eq!(rt; left.at(0).0.bytes(), [0, 1].as_slice());
+    assert_eq!(rt; right.at(0).0.bytes(), [0, 4].as_slice());
+    assert_eq!(rt; left.find(&key_of(rt.alloc(), 3)?), Some(&30));
+    assert_eq!(rt; left.find(&key_of(rt.alloc(), 4)?), None);
+    assert_eq!(rt; right.find(&key_of(rt.alloc(), 5)?), Some(&50));
     Ok(())
 }
 

@@ -1,4 +1,4 @@
-use Rattle.std.proofs.Common.{arith, ◌≡◌, ◌∙◌, ◌+◌, ◌-◌, ◌/◌, refl, ap, subst, length, take, drop, length-take}
+use Rattle.std.proofs.Common.{arith, ◌≡◌, ◌∙◌, ◌+◌, ◌-◌, ◌/◌, true, refl, ap, subst, length, take, drop, length-take}
 use Rattle.map_model.specs.Maps.{sorted}
 use Rattle.leaf_store.specs.Rows.{AreTags}
 use Rattle.leaf_store.proofs.Unsorted.{sorted_nothing, sorted_ascending}
@@ -42,7 +42,7 @@ pub invariant_of-right : goal.invariant_of-right
 invariant_of-right g c =
     let s = settled_rows _ _ c.self.view_is c.self.inside.rows.items refl c.self.invariant.order c.put_in_order.ensures.ordered _ c.put_in_order.ensures.map in
     let tags = subst (λ rows. AreTags c.right.inside.salt (drop (c.len.result - c.len-2.result / 2) rows) c.cut_tags.new.right.pairs) c.deref.ensures.value c.cut_tags.ensures.go in
-    rw c.move_tail.ensures.go (right_leaf c.self.inside.rows.items s.1 (c.len.result - c.len-2.result / 2) c.self.invariant.keys c.right.inside.salt c.cut_tags.new.right.pairs tags)
+    rw c.move_tail.ensures.go (right_leaf c.self.inside.rows.items s.1 (c.len.result - c.len-2.result / 2) c.self.invariant.keys c.right.inside.salt c.cut_tags.new.right.pairs tags true)
 
 pub returns-clause-stay : goal.returns-clause-stay
 returns-clause-stay g c =

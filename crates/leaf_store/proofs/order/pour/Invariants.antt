@@ -1,6 +1,6 @@
 use Rattle.std.proofs.Common.{◌≡◌, ◌+◌, ◌-◌, ◌≤◌, ◌++◌, length, reverse}
 use Rattle.std.specs.Vec.{vec_capacity}
-use Rattle.leaf_store.proofs.order.move_tail.Given as goal
+use Rattle.leaf_store.proofs.order.pour.Given as goal
 
 abbrev pub invariant-back : goal.invariant-back
 invariant-back g l = record {
