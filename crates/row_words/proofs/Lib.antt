@@ -3,6 +3,6 @@ pub mod Packed
 pub mod Beginnings
 pub mod ItemNames
 pub mod Padding
-pub mod Halves
+pub mod Parts
 pub mod Joined
 pub mod ShortWords

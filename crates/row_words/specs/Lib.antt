@@ -3,5 +3,5 @@ pub mod Shape
 pub mod Layout
 pub mod Decode
 pub mod Padded
-pub mod Halves
+pub mod Parts
 pub mod VecRows

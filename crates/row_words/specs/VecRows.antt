@@ -13,7 +13,7 @@ unfoldable pub joined : List ℕ → List ℕ → List ℕ → List ℕ → List
 joined header heads items leaves = header ++ heads ++ items ++ leaves
 
 -- Of the items and of the leaf rows only the first words lie in memory: each list goes on with zeros up to the
--- shape's count, so a word that was never written is 0. A head lies there as its two halves.
+-- shape's count, so a word that was never written is 0. A head lies there in two parts.
 abbrev pub words_of : VecRows → List ℕ
 words_of rows = joined rows.header rows.heads rows.items rows.leaves
 

@@ -18,4 +18,4 @@ pub use probes::probe_words;
 pub use rows::{ItemRow, LeafRow, Probe, Rows, RowsMut};
 pub use shape::{MakeFault, Shape, ShapeFault};
 pub use vec_rows::VecRows;
-pub use words::Words;
+pub use words::{LeafParts, Words, begins};

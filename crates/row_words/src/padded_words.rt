@@ -1,6 +1,6 @@
 //! Words of which only the first lie in memory.
 
-ghost use Rattle.std.specs.Prelude.{◌≡◌, ◌<◌, ◌≤◌, ◌+◌, ◌-◌, ◌^◌, [], ◌∷◌, ◌++◌, IfOk, length, replicate, slice_index, slice_set, vec_len, vec_capacity};
+ghost use Rattle.std.specs.Prelude.{◌≡◌, ◌<◌, ◌≤◌, ◌+◌, ◌-◌, ◌^◌, [], ◌∷◌, ◌++◌, IfOk, IfSome, length, replicate, slice_index, slice_range, slice_set, vec_len, vec_capacity};
 
 use std::alloc::{AllocError, Global};
 use std::marker::Model;
@@ -71,6 +71,20 @@ impl PaddedWords {
             self.get(from + 2),
             self.get(from + 3),
         ]
+    }
+
+    /// That many words from a place on as they lie in memory, where all of them are kept.
+    pub(crate) fn kept_from(&self, from: usize, count: usize) -> Option<&[u64]>
+        requires from { from < 2 ^ 32 }
+        requires count { count < 2 ^ 32 }
+        ensures many { IfSome result (λ words. length words.now ≡ count) }
+        ensures words { IfSome result (λ words. words.now ≡ slice_range self.now from (from + count)) }
+    {
+        if from + count <= self.kept.len() {
+            Some(&self.kept[from..from + count])
+        } else {
+            None
+        }
     }
 
     /// Writes the word at a place. Where it is behind the kept words and isn't 0, those between become

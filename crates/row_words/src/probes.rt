@@ -3,7 +3,6 @@
 ghost use Rattle.std.specs.Prelude.{◌≡◌, ◌+◌};
 ghost use Rattle.row_words.specs.Decode.{IsUsed, Probed};
 
-use crate::words::begins;
 use crate::{ItemRow, Probe, Words};
 use std::sync::ledger::Ledger;
 use steps::Steps;
@@ -36,7 +35,7 @@ pub fn probe_words<W: Words, L: Ledger>(
     if len as u64 > mark - 1 {
         return Probe::Other { next };
     }
-    if !begins(words, leftmost, prefix) {
+    if !words.leaf_begins(leftmost, prefix) {
         return Probe::Other { next };
     }
     Probe::Same(ItemRow {

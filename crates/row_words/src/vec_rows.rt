@@ -6,18 +6,23 @@ ghost use Rattle.row_words.specs.Shape.{IsShape};
 
 use crate::head_words::HeadWords;
 use crate::padded_words::PaddedWords;
-use crate::{ItemRow, LeafRow, Probe, Rows, RowsMut, Shape, Words, leaf_words, probe_words};
+use crate::words::words_begin;
+use crate::{
+    ItemRow, LeafParts, LeafRow, Probe, Rows, RowsMut, Shape, Words, begins, leaf_words,
+    probe_words,
+};
 use std::alloc::{AllocError, Global};
 use std::sync::ledger::Ledger;
 use steps::Steps;
 
 /// A table in vectors. When it is made, memory for all of its words is reserved, and only the header
-/// and the lower halves of the heads are written: four bytes for each bucket. A page of the items, and
-/// one of the leaf rows, is touched when a word other than 0 is written in it, or behind it in the same
-/// vector: up to that word the vector is filled with zeros. So an item or a leaf costs memory once one
-/// at its place or at a greater one is first used, and where places are used from the least on, a write
-/// fills a few words at most. So it is with the upper halves of the heads, which stay 0 where a head is
-/// a place + 1. A word that was never written is read as 0, without a look at memory.
+/// and the lower sixteen bits of the heads are written: two bytes for each bucket. A page of the items,
+/// and one of the leaf rows, is touched when a word other than 0 is written in it, or behind it in the
+/// same vector: up to that word the vector is filled with zeros. So an item or a leaf costs memory once
+/// one at its place or at a greater one is first used, and where places are used from the least on, a
+/// write fills a few words at most. The rest of the heads is kept so too, eight bytes for each bucket up
+/// to the last one whose head is 65,536 or more. A head is a place + 1, so there is none while fewer
+/// items were used. A word that was never written is read as 0, without a look at memory.
 #[derive(Debug, Drop)]
 pub struct VecRows {
     shape: Shape,
@@ -36,8 +41,8 @@ pub struct VecRows {
 impl VecRows {
     ghost use Rattle.row_words.specs.VecRows.{shape_of, words_of};
 
-    /// A table whose words are all 0. It reserves eight bytes for each word of the shape and four more
-    /// for each bucket, and writes those four alone.
+    /// A table whose words are all 0. It reserves eight bytes for each word of the shape and two more
+    /// for each bucket, and writes those two alone.
     pub fn new(alloc: Global, shape: &Shape) -> Result<VecRows, AllocError>
         requires { IsShape shape.now }
         ensures shape { IfOk result (λ rows. shape_of rows ≡ shape.now) }
@@ -54,7 +59,7 @@ impl VecRows {
 }
 
 #[tactic(auto, unfolding(crate::specs::VecRows::joined))]
-impl Words for VecRows {
+impl LeafParts for VecRows {
     ghost use Rattle.row_words.specs.declared.vec_rows.VecRows.{VecRows};
     ghost use Rattle.row_words.specs.VecRows.{shape_of, words_of};
     ghost use Rattle.std.specs.Prelude.{◌≡◌, refl};
@@ -70,6 +75,13 @@ impl Words for VecRows {
 
     ghost stays_trans = { λ a b c p q. q ∙ p };
 
+    fn leaf_part(&mut self, leaf: u32, word: u32) -> u64 {
+        self.leaves.get((35 * leaf + word) as usize)
+    }
+}
+
+#[tactic(auto, unfolding(crate::specs::VecRows::joined))]
+impl Words for VecRows {
     fn item_head(&mut self, at: u32) -> [u64; 3] {
         self.items.three(8 * at as usize)
     }
@@ -78,8 +90,13 @@ impl Words for VecRows {
         self.items.four(8 * at as usize + 3)
     }
 
-    fn leaf_part(&mut self, leaf: u32, word: u32) -> u64 {
-        self.leaves.get((35 * leaf + word) as usize)
+    // Only kept words lie side by side. Where some aren't, each is asked for by itself.
+    fn leaf_begins(&mut self, leaf: u32, bytes: &[u8]) -> bool {
+        let first = (35 * leaf + 1) as usize;
+        match self.leaves.kept_from(first, bytes.len() / 8 + 1) {
+            Some(words) => words_begin(words, bytes),
+            None => begins(self, leaf, bytes),
+        }
     }
 }
 
@@ -189,6 +206,13 @@ mod tests {
         salt: 5,
     };
 
+    // Words of leaf 1: the mark of 17 bytes, and `abcdefghijklmnop`, the first sixteen.
+    const ANCHOR: [(u32, u64); 3] = [
+        (48, 18),
+        (49, 0x6867_6665_6463_6261),
+        (50, 0x706f_6e6d_6c6b_6a69),
+    ];
+
     // A leaf's row by hand: the anchor `Jo`, no leaf before it, leaf 0 behind it. No word of the item is
     // written.
     #[test]
@@ -204,6 +228,109 @@ mod tests {
         assert_eq!(rt; got(&mut rows, 49), 28_490);
         assert_eq!(rt; got(&mut rows, 9), 0);
         Ok(())
+    }
+
+    // Heads below 65,536 and from there on, beyond 32 bits, and back.
+    #[test]
+    fn reads_heads_of_each_width(rt: HostRuntime) -> Result<(), Fail> {
+        let mut rows = VecRows::new(rt.alloc(), &SMALL)?;
+        let table = [
+            (0, 0),
+            (65_535, 65_535),
+            (65_536, 65_536),
+            (65_537, 65_537),
+            (0x1_0000_0005, 5),
+            (0xfedc_ba98_7654_3210, 0x7654_3210),
+            (65_535, 65_535),
+        ];
+        for (word, head) in table {
+            put(&mut rows, 4, word);
+            assert_eq!(rt; got(&mut rows, 4), word);
+            assert_eq!(rt; first_head(&mut rows), head);
+        }
+        Ok(())
+    }
+
+    // The bytes that are compared lie in one, two and three words, all of them kept.
+    #[test]
+    fn compares_kept_words(rt: HostRuntime) -> Result<(), Fail> {
+        let mut rows = VecRows::new(rt.alloc(), &SMALL)?;
+        for (i, word) in ANCHOR {
+            put(&mut rows, i, word);
+        }
+        put(&mut rows, 51, 0x71);
+        let table = [
+            ("", true),
+            ("abcdefg", true),
+            ("abcdef*", false),
+            ("abcdefgh", true),
+            ("abcdefg*", false),
+            ("abcdefghi", true),
+            ("abcdefgh*", false),
+            ("abcdefghijklmnop", true),
+            ("abcdefghijklmno*", false),
+            ("abcdefghijklmnopq", true),
+            ("abcdefghijklmnop*", false),
+            ("*bcdefghijklmnopq", false),
+            ("abcdefgh*jklmnopq", false),
+        ];
+        for (text, want) in table {
+            assert_eq!(rt; starts_with(&mut rows, text), want, "at {text}");
+        }
+        Ok(())
+    }
+
+    // Only the mark is kept: the anchor is of zeros.
+    #[test]
+    fn compares_words_never_written(rt: HostRuntime) -> Result<(), Fail> {
+        let mut rows = VecRows::new(rt.alloc(), &SMALL)?;
+        put(&mut rows, 48, 18);
+        let table = [
+            ("", true),
+            ("\0\0\0\0\0\0\0", true),
+            ("\0\0\0\0\0\0*", false),
+            ("\0\0\0\0\0\0\0\0", true),
+            ("\0\0\0\0\0\0\0*", false),
+            ("\0\0\0\0\0\0\0\0\0", true),
+            ("\0\0\0\0\0\0\0\0*", false),
+            ("\0\0\0\0\0\0\0\0\0\0\0\0\0\0\0\0", true),
+            ("\0\0\0\0\0\0\0\0\0\0\0\0\0\0\0*", false),
+            ("\0\0\0\0\0\0\0\0\0\0\0\0\0\0\0\0\0", true),
+            ("\0\0\0\0\0\0\0\0\0\0\0\0\0\0\0\0*", false),
+        ];
+        for (text, want) in table {
+            assert_eq!(rt; starts_with(&mut rows, text), want, "at {text:?}");
+        }
+        Ok(())
+    }
+
+    // The first two words of the anchor are kept, and the third is 0.
+    #[test]
+    fn compares_words_partly_kept(rt: HostRuntime) -> Result<(), Fail> {
+        let mut rows = VecRows::new(rt.alloc(), &SMALL)?;
+        for (i, word) in ANCHOR {
+            put(&mut rows, i, word);
+        }
+        let table = [
+            ("abcdefghijklmno", true),
+            ("abcdefghijklmnop", true),
+            ("abcdefghijklmno*", false),
+            ("abcdefghijklmnop\0", true),
+            ("abcdefghijklmnopq", false),
+        ];
+        for (text, want) in table {
+            assert_eq!(rt; starts_with(&mut rows, text), want, "at {text:?}");
+        }
+        Ok(())
+    }
+
+    // Whether the anchor of leaf 1 begins with a text.
+    fn starts_with(rows: &mut VecRows, text: &str) -> bool {
+        1 < rows.layout().leaves && text.len() < 256 && rows.leaf_begins(1, text.as_bytes())
+    }
+
+    fn first_head(rows: &mut VecRows) -> u32 {
+        if rows.heads() > 0 { rows.head(0) } else { 7 }
     }
 
     fn put(rows: &mut VecRows, i: u32, word: u64) {

@@ -6,15 +6,11 @@ ghost use Rattle.row_words.specs.Layout.{leaf_word};
 
 use crate::anchor_words::{whole_four, whole_word};
 
-/// Items and leaf rows whose words can be read. Who has them has the two looks of a reader of rows:
-/// [`crate::probe_words`] and [`crate::leaf_words`]. Words are named by their row, so that a table whose
-/// items and leaf rows lie apart needn't find out which it is, and those of an item that are always
-/// read together are read by one call. No call changes a word, and each tells what `stays`.
-pub trait Words {
-    ghost use Rattle.std.specs.Prelude.{List, [], ◌∷◌, ℕ, ◌≡◌, ◌<◌, ◌+◌, slice_index};
+/// Leaf rows whose words can be read. No call changes a word, and each tells what `stays`.
+pub trait LeafParts {
+    ghost use Rattle.std.specs.Prelude.{List, ℕ, ◌≡◌, ◌<◌, ◌+◌, slice_index};
     ghost use Rattle.row_words.specs.declared.shape.Shape.{Shape};
-    ghost use Rattle.row_words.specs.Layout.{item_word, leaf_word};
-    ghost use Rattle.row_words.specs.Decode.{item_at};
+    ghost use Rattle.row_words.specs.Layout.{leaf_word};
 
     ghost shape: { Self → Shape };
 
@@ -22,23 +18,6 @@ pub trait Words {
 
     // What each call leaves as it is beside the words and the shape.
     ghost stays: { Self → Self → Type 0 };
-
-    /// The first three words of the item at a place: those of its hash, of its link and length, and of
-    /// its leaves.
-    fn item_head(&mut self, at: u32) -> [u64; 3]
-        requires { at < (shape self.old).items }
-        ensures value { result ≡ slice_index (words self.old) (item_word (shape self.old) at) ∷ slice_index (words self.old) (item_word (shape self.old) at + 1) ∷ slice_index (words self.old) (item_word (shape self.old) at + 2) ∷ [] }
-        ensures words { words self.new ≡ words self.old }
-        ensures shape { shape self.new ≡ shape self.old }
-        ensures stays { stays self.old self.new };
-
-    /// The four words of the item at a place that say which bytes may follow.
-    fn item_bits(&mut self, at: u32) -> [u64; 4]
-        requires { at < (shape self.old).items }
-        ensures value { result ≡ (item_at (shape self.old) (words self.old) at).bits }
-        ensures words { words self.new ≡ words self.old }
-        ensures shape { shape self.new ≡ shape self.old }
-        ensures stays { stays self.old self.new };
 
     /// A word of a leaf's row.
     fn leaf_part(&mut self, leaf: u32, word: u32) -> u64
@@ -54,8 +33,46 @@ pub trait Words {
     ghost stays_trans: { (a b c : Self) → stays a b → stays b c → stays a c };
 }
 
-/// Whether the bytes of a leaf's row begin with these. Eight bytes are compared at a time, as one word.
-pub(crate) fn begins<W: Words>(words: &mut W, leaf: u32, bytes: &[u8]) -> bool
+/// Items and leaf rows whose words can be read. Who has them has the two looks of a reader of rows:
+/// [`crate::probe_words`] and [`crate::leaf_words`]. Words are named by their row, so that a table whose
+/// items and leaf rows lie apart needn't find out which it is, and those that are always read together
+/// are read by one call. No call changes a word, and each tells what `stays`.
+pub trait Words: LeafParts {
+    ghost use Rattle.std.specs.Prelude.{[], ◌∷◌, ◌≡◌, ◌<◌, ◌+◌, ◌↔◌, IsTrue, length, slice_index};
+    ghost use Rattle.row_words.specs.Bytes.{bytes_from};
+    ghost use Rattle.row_words.specs.Layout.{item_word, leaf_word};
+    ghost use Rattle.row_words.specs.Decode.{item_at};
+
+    /// The first three words of the item at a place: those of its hash, of its link and length, and of
+    /// its leaves.
+    fn item_head(&mut self, at: u32) -> [u64; 3]
+        requires { at < (Self.shape self.old).items }
+        ensures value { result ≡ slice_index (Self.words self.old) (item_word (Self.shape self.old) at) ∷ slice_index (Self.words self.old) (item_word (Self.shape self.old) at + 1) ∷ slice_index (Self.words self.old) (item_word (Self.shape self.old) at + 2) ∷ [] }
+        ensures words { Self.words self.new ≡ Self.words self.old }
+        ensures shape { Self.shape self.new ≡ Self.shape self.old }
+        ensures stays { Self.stays self.old self.new };
+
+    /// The four words of the item at a place that say which bytes may follow.
+    fn item_bits(&mut self, at: u32) -> [u64; 4]
+        requires { at < (Self.shape self.old).items }
+        ensures value { result ≡ (item_at (Self.shape self.old) (Self.words self.old) at).bits }
+        ensures words { Self.words self.new ≡ Self.words self.old }
+        ensures shape { Self.shape self.new ≡ Self.shape self.old }
+        ensures stays { Self.stays self.old self.new };
+
+    /// Whether the bytes of a leaf's row begin with these. [`begins`] answers it by a call for each word.
+    fn leaf_begins(&mut self, leaf: u32, bytes: &[u8]) -> bool
+        requires leaf { leaf < (Self.shape self.old).leaves }
+        requires short { length bytes.now < 256 }
+        ensures value { IsTrue result ↔ (bytes_from (Self.words self.old) (leaf_word (Self.shape self.old) leaf + 1) (length bytes.now) ≡ bytes.now) }
+        ensures words { Self.words self.new ≡ Self.words self.old }
+        ensures shape { Self.shape self.new ≡ Self.shape self.old }
+        ensures stays { Self.stays self.old self.new };
+}
+
+/// Whether the bytes of a leaf's row begin with these, by one call for each word. Eight bytes are
+/// compared at a time, as one word.
+pub fn begins<W: LeafParts>(words: &mut W, leaf: u32, bytes: &[u8]) -> bool
     requires leaf { leaf < (W.shape words.old).leaves }
     requires short { length bytes.now < 256 }
     ensures value { IsTrue result ↔ (bytes_from (W.words words.old) (leaf_word (W.shape words.old) leaf + 1) (length bytes.now) ≡ bytes.now) }
@@ -71,6 +88,21 @@ pub(crate) fn begins<W: Words>(words: &mut W, leaf: u32, bytes: &[u8]) -> bool
     }
     let last = words.leaf_part(leaf, 1 + whole as u32);
     word_begins(last, &bytes[8 * whole..])
+}
+
+/// Whether the bytes of some words begin with these, which end within the last of the words. Eight bytes
+/// are compared at a time, as one word.
+pub(crate) fn words_begin(words: &[u64], bytes: &[u8]) -> bool
+    requires { length words.now ≡ length bytes.now / 8 + 1 }
+    ensures { IsTrue result ↔ (bytes_from words.now 0 (length bytes.now) ≡ bytes.now) }
+{
+    let whole = bytes.len() / 8;
+    for i in 0..whole {
+        if words[i] != whole_word(bytes, 8 * i) {
+            return false;
+        }
+    }
+    word_begins(words[whole], &bytes[8 * whole..])
 }
 
 /// Whether the bytes of a word begin with these, which are fewer. Four or two of them are compared at a

@@ -5,8 +5,8 @@ use Rattle.row_words.proofs.words.begins.Given as goal
 
 abbrev pub invariant-loop-i : goal.invariant-loop-i
 invariant-loop-i g l = record {
-  words : g.W.Words.words l.words ≡ g.W.Words.words l.fn.words;
-  shape : g.W.Words.shape l.words ≡ g.W.Words.shape l.fn.words;
-  stays : g.W.Words.stays l.fn.words l.words;
-  same : (j : ℕ) → j < 8 * l.i → byte_at (g.W.Words.words l.fn.words) (leaf_word (g.W.Words.shape l.fn.words) l.leaf + 1) j ≡ get_or l.bytes j 0;
+  words : g.W.LeafParts.words l.words ≡ g.W.LeafParts.words l.fn.words;
+  shape : g.W.LeafParts.shape l.words ≡ g.W.LeafParts.shape l.fn.words;
+  stays : g.W.LeafParts.stays l.fn.words l.words;
+  same : (j : ℕ) → j < 8 * l.i → byte_at (g.W.LeafParts.words l.fn.words) (leaf_word (g.W.LeafParts.shape l.fn.words) l.leaf + 1) j ≡ get_or l.bytes j 0;
 }
