@@ -1,5 +1,5 @@
 -- The map of items while the prefixes of a new anchor are put in, from the shortest on.
-use Rattle.std.proofs.Common.{◌≡◌, ◌≢◌, ℕ, zero, suc, ◌+◌, ◌*◌, ◌/◌, ◌%◌, ◌^◌, ◌<◌, ◌≤◌, ◌⊎◌, inl, inr, List, [], ◌∷◌, ◌++◌, length, length-append, take, get_or, Option, Some, None, sym, ap, ◌∙◌, refl, arith, eqb-true, eq-eqb, get_or-set_other, get_or-set_same}
+use Rattle.std.proofs.Common.{◌≡◌, ◌≢◌, ℕ, zero, suc, ◌+◌, ◌*◌, ◌/◌, ◌%◌, ◌^◌, ◌<◌, ◌≤◌, inl, inr, List, [], ◌∷◌, ◌++◌, length, length-append, take, get_or, Option, Some, None, sym, ap, ◌∙◌, refl, arith, eqb-true, eq-eqb, get_or-set_other, get_or-set_same}
 use Rattle.std.specs.Prelude.{Bool, true, false, ◌==◌, ◌&&◌, ◌||◌, nat_lt, nat_le, max, if◌then◌else◌}
 use mathlib.Core.Bool.{false≢true}
 use Rattle.std.proofs.lemmas.Bool.{lt-ltb, le-ltb, le-leb, lt-leb, ne_eqb, eqb-false, cases_order}
@@ -14,9 +14,9 @@ use Rattle.key_bytes.specs.Common.{lcp}
 use Rattle.key_bytes.specs.Order.{is_same}
 use Rattle.key_bytes.proofs.Orders.{same_is, same_itself}
 use Rattle.anchor_rules.specs.Anchors.{Anchors, with_split}
-use Rattle.anchor_rules.specs.Items.{Item, begins, begins_end, item, shared}
+use Rattle.anchor_rules.specs.Items.{Item, begins, begins_end, is_prefix, item, shared}
 use Rattle.anchor_rules.proofs.Prefixes.{begins_is, begins_take, begins_take_lcp, lcp_sym}
-use Rattle.anchor_rules.proofs.ItemParts.{some_item, item-none}
+use Rattle.anchor_rules.proofs.ItemParts.{item_is, some_item, item-none}
 use Rattle.anchor_rules.proofs.ItemChanges.{split_other, split_known, split_new, split_shared}
 use Rattle.meta_trie.specs.Trie.{Says, bit_of}
 use Rattle.meta_trie.specs.Words.{with_item}
@@ -69,28 +69,46 @@ mixed_other A B a n p b = ap (λ (t : Bool). if t && nat_lt (length p) n then it
 pub mixed_done : (A B : Anchors) (a : List ℕ) (n : ℕ) (p : List ℕ) → begins p a ≡ true → length p < n → mixed A B a n p ≡ item B p
 mixed_done A B a n p b l = ap (λ (t : Bool). if t && nat_lt (length p) n then item B p else item A p) b ∙ ap (λ (t : Bool). if t then item B p else item A p) (lt-ltb (length p) n l)
 
+-- only the prefix of n bytes tells n from one more
+mixed_apart : (A B : Anchors) (a : List ℕ) (n : ℕ) (p : List ℕ) → p ≢ take n a → mixed A B a n p ≡ mixed A B a (n + 1) p
+mixed_apart A B a n p ne = elim (begins p a) as (λ (t : Bool). begins p a ≡ t → mixed A B a n p ≡ mixed A B a (n + 1) p) [
+  | true ↦ λ b. elim (cases_order (length p) n) [
+    | inl same ↦ absurd (ne (begun p a b ∙ ap (λ (m : ℕ). take m a) same))
+    | inr r ↦ elim r [
+      | inl below ↦ mixed_done A B a n p b below ∙ sym (mixed_done A B a (n + 1) p b (omega (arith, below)))
+      | inr past ↦ mixed_later A B a n p (omega (arith, past)) ∙ sym (mixed_later A B a (n + 1) p (omega (arith, past)))
+    ]
+  ]
+  | false ↦ λ b. mixed_other A B a n p b ∙ sym (mixed_other A B a (n + 1) p b)
+] refl
+
+-- the prefix of n bytes has its new item with one more
+mixed_here : (A B : Anchors) (a : List ℕ) (n : ℕ) → n ≤ length a → mixed A B a (n + 1) (take n a) ≡ item B (take n a)
+mixed_here A B a n le = mixed_done A B a (n + 1) (take n a) (begins_take n a) (let many = length-take n a in omega (arith, many, le))
+
+apart : (p q : List ℕ) → is_same p q ≡ false → p ≢ q
+apart p q other e = false≢true (sym other ∙ ap (λ (r : List ℕ). is_same r q) e ∙ same_itself q)
+
 -- one prefix more was put in
 pub mixed_step : (A B : Anchors) (a : List ℕ) (n : ℕ) (it : Item) → n ≤ length a → item B (take n a) ≡ Some it → (p : List ℕ) → with_item (mixed A B a n) (take n a) it p ≡ mixed A B a (n + 1) p
-mixed_step A B a n it le is p =
-    let many : length (take n a) ≡ n = length-take n a ∙ omega (arith, le) in
-    elim (is_same p (take n a)) as (λ (t : Bool). is_same p (take n a) ≡ t → with_item (mixed A B a n) (take n a) it p ≡ mixed A B a (n + 1) p) [
-      | true ↦ λ same.
-          let e : p ≡ take n a = same_is p (take n a) same in
-          ap (with_item (mixed A B a n) (take n a) it) e ∙ with_here (mixed A B a n) (take n a) it ∙ sym is ∙ sym (mixed_done A B a (n + 1) (take n a) (begins_take n a) (omega (arith, many))) ∙ ap (mixed A B a (n + 1)) (sym e)
-      | false ↦ λ other.
-          let ne : p ≢ take n a = λ e. false≢true (sym other ∙ ap (λ (q : List ℕ). is_same q (take n a)) e ∙ same_itself (take n a)) in
-          with_other (mixed A B a n) (take n a) it p ne ∙ rest ne (begins p a) refl (cases_order (length p) n)
-    ] refl
-  where
-    rest : p ≢ take n a → (b : Bool) → begins p a ≡ b → ((length p ≡ n) ⊎ ((length p < n) ⊎ (n < length p))) → mixed A B a n p ≡ mixed A B a (n + 1) p
-    rest ne false b o = mixed_other A B a n p b ∙ sym (mixed_other A B a (n + 1) p b)
-    rest ne true b o = elim o [
-      | inl same ↦ absurd (ne (begun p a b ∙ ap (λ (m : ℕ). take m a) same))
-      | inr r ↦ elim r [
-        | inl below ↦ mixed_done A B a n p b below ∙ sym (mixed_done A B a (n + 1) p b (omega (arith, below)))
-        | inr past ↦ mixed_later A B a n p (omega (arith, past)) ∙ sym (mixed_later A B a (n + 1) p (omega (arith, past)))
-      ]
-    ]
+mixed_step A B a n it le is p = elim (is_same p (take n a)) as (λ (t : Bool). is_same p (take n a) ≡ t → with_item (mixed A B a n) (take n a) it p ≡ mixed A B a (n + 1) p) [
+  | true ↦ λ same.
+      let e : p ≡ take n a = same_is p (take n a) same in
+      ap (with_item (mixed A B a n) (take n a) it) e ∙ with_here (mixed A B a n) (take n a) it ∙ sym is ∙ sym (mixed_here A B a n le) ∙ ap (mixed A B a (n + 1)) (sym e)
+  | false ↦ λ other.
+      let ne = apart p (take n a) other in
+      with_other (mixed A B a n) (take n a) it p ne ∙ mixed_apart A B a n p ne
+] refl
+
+-- or is as it was
+pub mixed_kept : (A B : Anchors) (a : List ℕ) (n : ℕ) → n ≤ length a → item B (take n a) ≡ item A (take n a) → (p : List ℕ) → mixed A B a n p ≡ mixed A B a (n + 1) p
+mixed_kept A B a n le is p = elim (is_same p (take n a)) as (λ (t : Bool). is_same p (take n a) ≡ t → mixed A B a n p ≡ mixed A B a (n + 1) p) [
+  | true ↦ λ same.
+      let e : p ≡ take n a = same_is p (take n a) same in
+      let later = mixed_later A B a n (take n a) (let many = length-take n a in omega (arith, many, le)) in
+      ap (mixed A B a n) e ∙ later ∙ sym is ∙ sym (mixed_here A B a n le) ∙ ap (mixed A B a (n + 1)) (sym e)
+  | false ↦ λ other. mixed_apart A B a n p (apart p (take n a) other)
+] refl
 
 module _ (A : Anchors) (left : ℕ) (lo : List ℕ) (hi : Option (List ℕ)) (a : List ℕ) (leaf : ℕ) (g : Grows A left lo hi a) where
   pub mixed_end : (n : ℕ) → length a < n → (p : List ℕ) → mixed A (with_split A left a leaf) a n p ≡ item (with_split A left a leaf) p
@@ -131,6 +149,39 @@ take_is n a le = elim (n == length a) as (λ (t : Bool). (n == length a) ≡ t �
   | true ↦ λ is. let e : n ≡ length a = eqb-true n (length a) is in ap (λ (p : List ℕ). is_same p a) (take_all n a (omega (arith, e))) ∙ same_itself a
   | false ↦ λ is. not_same (take n a) a (λ e. let m = ap length e in eqb-false n (length a) is (omega (arith, m, length-take n a, le)))
 ] refl
+
+-- an item with the leaves and the bytes that it has already
+grown_same : (p lo : List ℕ) (hi : Option (List ℕ)) (a : List ℕ) (leaf : ℕ) (it : Item) → begins p lo ≡ true → begins_end p hi ≡ true → is_same p a ≡ false → ((c : ℕ) → (it.child c || begins (p ++ c ∷ []) a) ≡ it.child c)
+    → grown_by p a leaf (begins p lo) (begins_end p hi) it ≡ it
+grown_same p lo hi a leaf it fe le other has = λ i. record { is_anchor = anchor i; leftmost = first i; rightmost = last i; child = λ c. has c i }
+  where
+    anchor : (it.is_anchor || is_same p a) ≡ it.is_anchor
+    anchor = ap (λ (t : Bool). it.is_anchor || t) other ∙ or_false it.is_anchor
+
+    first : (if begins p lo then it.leftmost else leaf) ≡ it.leftmost
+    first = ap (λ (t : Bool). if t then it.leftmost else leaf) fe
+
+    last : (if begins_end p hi then it.rightmost else leaf) ≡ it.rightmost
+    last = ap (λ (t : Bool). if t then it.rightmost else leaf) le
+
+module _ (A : Anchors) (left : ℕ) (lo : List ℕ) (hi : Option (List ℕ)) (a : List ℕ) (leaf : ℕ) (g : Grows A left lo hi a) where
+  -- a's byte behind a prefix that is shared with it is there already
+  has_child : (n : ℕ) (it : Item) → n < length a → n < shared lo a hi → item A (take n a) ≡ Some it → (c : ℕ) → (it.child c || begins (take n a ++ c ∷ []) a) ≡ it.child c
+  has_child n it lt l known c = elim (begins (take n a ++ c ∷ []) a) as (λ (t : Bool). begins (take n a ++ c ∷ []) a ≡ t → (it.child c || t) ≡ it.child c) [
+    | true ↦ λ b.
+        let many : length (take n a ++ c ∷ []) ≡ n + 1 = (let x = length-append (take n a) (c ∷ []) in let y = length-take n a in omega (arith, x, y, lt)) in
+        let longer : take n a ++ c ∷ [] ≡ take (n + 1) a = begun (take n a ++ c ∷ []) a b ∙ ap (λ (m : ℕ). take m a) many in
+        let known_longer = split_shared A left lo hi a leaf g.rises g.at g.above g.before (n + 1) (omega (arith, lt)) ∙ le-leb (n + 1) (shared lo a hi) (omega (arith, l)) in
+        or_true (it.child c) ∙ sym ((item_is A (take n a) it known).children c ∙ ap (is_prefix A) longer ∙ known_longer)
+    | false ↦ λ b. or_false (it.child c)
+  ] refl
+
+  -- a prefix that both neighbours have, with a byte more that one of them has too, stays as it is
+  pub kept_item : (n : ℕ) → n < length a → n < shared lo a hi → begins (take n a) lo ≡ true → begins_end (take n a) hi ≡ true → item (with_split A left a leaf) (take n a) ≡ item A (take n a)
+  kept_item n lt l fe le =
+      let known = known_shared A left lo hi a leaf g n (omega (arith, lt)) (omega (arith, l)) in
+      let other : is_same (take n a) a ≡ false = take_is n a (omega (arith, lt)) ∙ ne_eqb n (length a) (λ e. omega (arith, e, lt)) in
+      grown_item A left lo hi a leaf g n known.0 known.1 ∙ ap Some (grown_same (take n a) lo hi a leaf known.0 fe le other (has_child n known.0 lt l known.1)) ∙ sym known.1
 
 -- the counts of the shared prefixes
 pub counts_shared : (lo a : List ℕ) (hi : Option (List ℕ)) → max (lcp lo a + 1) (back_count a hi) ≡ shared lo a hi + 1

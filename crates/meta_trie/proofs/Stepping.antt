@@ -18,7 +18,7 @@ use Rattle.meta_trie.proofs.Changing.{changed, changed-owner}
 use Rattle.meta_trie.proofs.Linking.{linked, linked_root}
 use Rattle.meta_trie.proofs.Holding.{holds_same, holds_same-owner}
 use Rattle.meta_trie.proofs.Walks.{bucket_below}
-use Rattle.meta_trie.proofs.Growing.{mixed_later, mixed_step, known_shared, unknown_above, grown_item, fresh_item}
+use Rattle.meta_trie.proofs.Growing.{mixed_later, mixed_step, mixed_kept, known_shared, unknown_above, grown_item, kept_item, fresh_item}
 
 -- the leaf of an item, which is kept or new, is live and begins with the prefix
 leaf_live : (k : Shape) (ws : List ℕ) (a : List ℕ) (n : ℕ) (row : ItemRow) (first leaf : ℕ) (keeps : Bool) → length (take n a) ≡ n → row.leftmost ≡ (if keeps then first else leaf) → IsLive k ws first → take (length (take n a)) (anchor_at k ws first) ≡ take n a → IsLive k ws leaf → anchor_at k ws leaf ≡ a → IsLive k ws row.leftmost × (take (length (take n a)) (anchor_at k ws row.leftmost) ≡ take n a)
@@ -99,3 +99,16 @@ found_some k ws A left lo hi a leaf n g s within l p e found is walked =
     let none : mixed A (with_split A left a leaf) a n p ≡ None = subst (Walked k ws (mixed A (with_split A left a leaf) a n) s.trie p) is walked in
     let both : Some known.0 ≡ None = sym known.1 ∙ sym (mixed_later A (with_split A left a leaf) a n (take n a) (omega (arith, many))) ∙ ap (mixed A (with_split A left a leaf) a n) (sym e) ∙ none in
     absurd (cc)
+
+-- a prefix that stays as it is needs nothing
+pub unchanged_step : (k : Shape) (ws : List ℕ) (A : Anchors) (left : ℕ) (lo : List ℕ) (hi : Option (List ℕ)) (a : List ℕ) (leaf n : ℕ) → Grows A left lo hi a → Growing k ws A left lo hi a leaf n → n < length a → n < shared lo a hi → begins (take n a) lo ≡ true → begins_end (take n a) hi ≡ true → Growing k ws A left lo hi a leaf (n + 1)
+unchanged_step k ws A left lo hi a leaf n g s lt l fe le =
+    let same = mixed_kept A (with_split A left a leaf) a n (omega (arith, lt)) (kept_item A left lo hi a leaf g n lt l fe le) in
+    record {
+      trie = holds_same k ws _ _ same s.trie;
+      root = holds_same-owner k ws _ _ same s.trie 0 ∙ s.root;
+      live = s.live;
+      named = s.named;
+      used = s.used ∙ omega (arith, l);
+      room = s.room;
+    }

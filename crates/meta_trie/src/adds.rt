@@ -19,8 +19,9 @@ use std::sync::ledger::{Blank, Ledger};
 use steps::Steps;
 
 /// Adds an anchor with a new leaf behind that of `left`. Where the prefixes of the anchor that have
-/// no item yet are more than the free items, nothing is changed. It takes no memory, and reads and
-/// writes one item for each byte of the anchor.
+/// no item yet are more than the free items, nothing is changed. It takes no memory, and looks up
+/// and writes at most one item for each prefix of the anchor, from the empty one to the whole: none
+/// for a prefix that both neighbours have, and one of them with its next byte too.
 pub fn add_anchor<R: RowsMut>(
     rows: &mut R,
     left: u32,

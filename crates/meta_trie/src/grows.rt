@@ -134,7 +134,9 @@ fn grow_fresh<R: RowsMut>(
     link_item(rows, &anchor[..n], hash, &row);
 }
 
-/// Writes the item of the first `n` bytes.
+/// Writes the item of the first `n` bytes, where the new anchor changes it. It doesn't where both
+/// neighbours have them, and one has the next byte too: the item's first leaf and its last one stay,
+/// and its bitmap has that byte. It isn't even read then.
 fn grow_item<R: RowsMut, L: Ledger>(
     rows: &mut R,
     anchor: &[u8],
@@ -153,6 +155,9 @@ fn grow_item<R: RowsMut, L: Ledger>(
     ensures shape { R.shape rows.new ≡ R.shape rows.old }
     ensures stays { R.stays rows.old rows.new }
 {
+    if n < front.min(back) && n + 1 < front.max(back) {
+        return;
+    }
     if n < front.max(back) {
         grow_known(rows, anchor, n, hash, leaf, front, back, steps);
         return;
@@ -160,8 +165,8 @@ fn grow_item<R: RowsMut, L: Ledger>(
     grow_fresh(rows, anchor, n, hash, leaf, front, back);
 }
 
-/// Writes the items of all prefixes of a new anchor, from the shortest on. `front` of them are
-/// prefixes of the anchor before it too, and `back` of the one behind it.
+/// Writes the items of all prefixes of a new anchor that it changes, from the shortest on. `front`
+/// of the prefixes are those of the anchor before it too, and `back` those of the one behind it.
 pub(crate) fn grow<R: RowsMut, L: Ledger>(
     rows: &mut R,
     anchor: &[u8],
