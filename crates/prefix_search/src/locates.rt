@@ -13,7 +13,7 @@ use crate::answers::{Located, Sought};
 use crate::bits::greatest_byte;
 use crate::hints::Hint;
 use crate::leaves::{at_leaf, before_leaf};
-use crate::longests::{Reached, reach};
+use crate::longests::{Reached, blank_item, reach};
 use key_bytes::{Fnv, Key};
 use meta_trie::look_by_hash;
 use row_words::{ItemRow, Rows};
@@ -46,9 +46,10 @@ pub fn seek<R: Rows, L: Ledger>(
     ensures stays { R.stays rows.old rows.new }
 {
     let bytes = key.bytes();
-    let reached = reach(rows, bytes, hint.len(), steps);
+    let mut item = blank_item();
+    let reached = reach(rows, bytes, hint.len(), &mut item, steps);
     hint.learn(reached.len as u32);
-    let leaf = leaf_from(rows, bytes, &reached, steps);
+    let leaf = leaf_from(rows, bytes, &reached, &item, steps);
     let rest = &bytes[reached.len..];
     Sought {
         leaf,
@@ -67,25 +68,27 @@ pub fn locate<R: Rows, L: Ledger>(rows: &mut R, key: &Key, steps: &mut Steps<L>)
     ensures stays { R.stays rows.old rows.new }
 {
     let bytes = key.bytes();
-    let reached = reach(rows, bytes, 0, steps);
-    let leaf = leaf_from(rows, bytes, &reached, steps);
+    let mut item = blank_item();
+    let reached = reach(rows, bytes, 0, &mut item, steps);
+    let leaf = leaf_from(rows, bytes, &reached, &item, steps);
     at_leaf(rows, leaf, steps)
 }
 
-/// The leaf of a key, from the longest prefix of the key that has an item. It takes at most one look
+/// The leaf of a key, from the longest prefix of the key that has an item, and that item. It takes at most one look
 /// for a child, or one step for the leaf before.
 #[inline]
 fn leaf_from<R: Rows, L: Ledger>(
     rows: &mut R,
     key: &[u8],
     reached: &Reached,
+    item: &ItemRow,
     steps: &mut Steps<L>,
 ) -> u32
     requires table { IsTable (R.shape rows.old) (R.words rows.old) }
     requires short { length key.now < 256 }
     requires within { reached.now.len ≤ length key.now }
     requires hash { reached.now.hash ≡ prefix_hash (R.shape rows.old).salt (take reached.now.len key.now) }
-    requires longest { (A : Anchors) → StandsFor (R.shape rows.old) (R.words rows.old) A → IsLongestOf A key.now reached.now.len reached.now.item }
+    requires longest { (A : Anchors) → StandsFor (R.shape rows.old) (R.words rows.old) A → IsLongestOf A key.now reached.now.len item.now }
     ensures leaf { (A : Anchors) → StandsFor (R.shape rows.old) (R.words rows.old) A → result ≡ target A key.now }
     ensures cost { (A : Anchors) → StandsFor (R.shape rows.old) (R.words rows.old) A → (c : ℕ) → MostInBucket (R.shape rows.old) A c → steps.new ≤ steps.old + (c + 1) }
     ensures words { R.words rows.new ≡ R.words rows.old }
@@ -93,13 +96,13 @@ fn leaf_from<R: Rows, L: Ledger>(
     ensures stays { R.stays rows.old rows.new }
 {
     let (prefix, rest) = key.split_at(reached.len);
-    match child_below(&reached.item, rest) {
+    match child_below(item, rest) {
         Some(byte) => last_of_child(rows, prefix, byte, reached.hash, steps),
         None => {
-            if reached.item.is_anchor {
-                reached.item.leftmost
+            if item.is_anchor {
+                item.leftmost
             } else {
-                before_leaf(rows, reached.item.leftmost, steps)
+                before_leaf(rows, item.leftmost, steps)
             }
         }
     }

@@ -13,7 +13,7 @@ last_of_child-requires-clause-child g c = λ A s.
 pub before_leaf-requires-clause-leaf : goal.before_leaf-requires-clause-leaf
 before_leaf-requires-clause-leaf g c = λ A s.
     let w = c.requires.longest A s in
-    let r = inner_anchor A _ w.0 s.anchors w.1.known (sym w.2.anchor ∙ c.if-reached.false) in
+    let r = inner_anchor A _ w.0 s.anchors w.1.known (sym w.2.anchor ∙ c.if-item.false) in
     (r.0, ap (span A) w.2.first ∙ r.1, r.2)
 
 pub returns-in-Some-clause-leaf : goal.returns-in-Some-clause-leaf
@@ -27,16 +27,16 @@ returns-in-Some-clause-leaf g c = λ A s.
 pub returns-in-Some-clause-cost : goal.returns-in-Some-clause-cost
 returns-in-Some-clause-cost g c = λ A s most fits. omega (arith, c.last_of_child.ensures.cost A s most fits)
 
-pub returns-then-reached-clause-leaf : goal.returns-then-reached-clause-leaf
-returns-then-reached-clause-leaf g c = λ A s.
+pub returns-then-item-clause-leaf : goal.returns-then-item-clause-leaf
+returns-then-item-clause-leaf g c = λ A s.
     let key : List ℕ = c.args.key.now in
     let len : ℕ = c.args.reached.now.len in
     let w = c.requires.longest A s in
-    w.2.first ∙ ends_at_anchor A key len w.0 s.anchors w.1 (ap (child_below w.0) (sym c.split_at.ensures.back) ∙ sym (c.in-None.ensures w.0 w.2)) (sym w.2.anchor ∙ c.if-reached.true)
+    w.2.first ∙ ends_at_anchor A key len w.0 s.anchors w.1 (ap (child_below w.0) (sym c.split_at.ensures.back) ∙ sym (c.in-None.ensures w.0 w.2)) (sym w.2.anchor ∙ c.if-item.true)
 
-pub returns-else-reached-clause-leaf : goal.returns-else-reached-clause-leaf
-returns-else-reached-clause-leaf g c = λ A s.
+pub returns-else-item-clause-leaf : goal.returns-else-item-clause-leaf
+returns-else-item-clause-leaf g c = λ A s.
     let key : List ℕ = c.args.key.now in
     let len : ℕ = c.args.reached.now.len in
     let w = c.requires.longest A s in
-    c.before_leaf.ensures.leaf A s ∙ (ap (leaf_before A) w.2.first ∙ ends_before A key len w.0 s.anchors w.1 (ap (child_below w.0) (sym c.split_at.ensures.back) ∙ sym (c.in-None.ensures w.0 w.2)) (sym w.2.anchor ∙ c.if-reached.false))
+    c.before_leaf.ensures.leaf A s ∙ (ap (leaf_before A) w.2.first ∙ ends_before A key len w.0 s.anchors w.1 (ap (child_below w.0) (sym c.split_at.ensures.back) ∙ sym (c.in-None.ensures w.0 w.2)) (sym w.2.anchor ∙ c.if-item.false))

@@ -1,12 +1,9 @@
-use Rattle.std.proofs.Common.{◌≡◌, ℕ, List, [], length, take, Option, Some, None, refl, arith, sym, ap, subst, ◌∙◌}
-use Rattle.std.specs.Prelude.{min, MatchOption}
+use Rattle.std.proofs.Common.{◌≡◌, ℕ, length, take, arith, sym, ap, subst, ◌∙◌}
+use Rattle.std.specs.Prelude.{min}
 use Rattle.key_bytes.specs.Fnv.{fnv_start}
 use Rattle.key_bytes.proofs.Hashes.{prefix_hash-nil}
-use Rattle.anchor_rules.specs.Anchors.{Anchors}
 use Rattle.anchor_rules.specs.Items.{longest_anchor}
 use Rattle.anchor_rules.proofs.ItemParts.{item_closed}
-use Rattle.meta_trie.specs.Stands.{StandsFor}
-use Rattle.row_words.specs.declared.rows.ItemRow.{ItemRow}
 use Rattle.row_words.specs.declared.shape.Shape.{Shape}
 use Rattle.prefix_search.specs.Search.{Tells, length_digits}
 use Rattle.prefix_search.proofs.Children.{none_behind}
@@ -29,7 +26,7 @@ loop-low-init g c =
       low_high = omega arith;
       high_key = omega (arith, c.min-high.ensures);
       hash = c.start-hash.ensures ∙ (ap fnv_start (c.salt.ensures ∙ ap (λ (k : Shape). k.salt) c.longest-most.ensures.shape) ∙ sym (prefix_hash-nil _));
-      known = refl;
+      known = λ some. absurd (omega (arith, some));
       longest = λ A s m lt le. none_past A c.args.key.now m (omega (arith, c.min-high.ensures, c.longest-most.ensures.value, longest_is _ _ A s)) le;
       cost = λ A s most fits. record {
         digits = length_digits A c.args.key.now;
@@ -51,7 +48,7 @@ loop-low-preserved-then-not-goes_on g c =
       low_high = omega arith;
       high_key = omega arith;
       hash = hash_on _ c.loop-low.hash _ c.loop-low.low _ c.args.key.now (omega arith) c.loop-low.invariant.hash c.extend-further.ensures;
-      known = λ A s. let w = v A s in (w.0, w.1, w.2);
+      known = λ _ A s. let w = v A s in (w.0, w.1, w.2);
       longest = λ A s m lt le.
           let w = v A s in
           none_behind A c.args.key.now c.middle_of-middle.result m w.0 c.goes_on.result w.1 (c.goes_on.ensures w.0 w.2) c.if-not-goes_on.true lt le;
@@ -69,7 +66,7 @@ loop-low-preserved-else-not-goes_on g c =
       low_high = omega arith;
       high_key = omega arith;
       hash = hash_on _ c.loop-low.hash _ c.loop-low.low _ c.args.key.now (omega arith) c.loop-low.invariant.hash c.extend-further.ensures;
-      known = λ A s. let w = v A s in (w.0, w.1, w.2);
+      known = λ _ A s. let w = v A s in (w.0, w.1, w.2);
       longest = c.loop-low.invariant.longest;
       cost = λ A s most fits. left_less _ _ _ _ _ _ (c.loop-low.invariant.cost A s most fits) (omega arith) c.middle_of-middle.ensures.narrow_above (cost A s most fits);
     }
@@ -90,13 +87,13 @@ loop-low-preserved g c =
       cost = λ A s most fits. left_less _ _ _ _ _ _ (c.loop-low.invariant.cost A s most fits) (omega arith) c.middle_of-middle.ensures.narrow_below (cost A s most fits);
     }
 
--- the item that was found, or that of the empty prefix
-told : (shape : Shape) (words : List ℕ) (found : Option ItemRow) (low : ℕ) (key : List ℕ) (item : ItemRow) → MatchOption found (low ≡ 0) (λ (row : ItemRow). (A : Anchors) → StandsFor shape words A → Tells A (take low key) row) → MatchOption found ((A : Anchors) → StandsFor shape words A → Tells A [] item) (λ (row : ItemRow). item ≡ row) → (A : Anchors) → StandsFor shape words A → Tells A (take low key) item
-told shape words None low key item is root A s = subst (λ (n : ℕ). Tells A (take n key) item) (sym is) (root A s)
-told shape words (Some row) low key item known same A s = subst (λ (r : ItemRow). Tells A (take low key) r) (sym same) (known A s)
+pub returns-then-low-eq0-clause-longest : goal.returns-then-low-eq0-clause-longest
+returns-then-low-eq0-clause-longest g c = λ A s.
+    let root = rw (c.loop-low.invariant.shape, c.loop-low.invariant.words) at c.root.ensures.item in
+    let known = subst (λ (n : ℕ). Tells A (take n c.args.key.now) c.root.result) (sym c.if-low-eq0.true) (root A s) in
+    (known.0, record { within = omega arith; known = known.1; none_longer = λ m lt le. c.loop-low.invariant.longest A s m (omega arith) le }, known.2)
 
-pub returns-clause-longest : goal.returns-clause-longest
-returns-clause-longest g c = λ A s.
-    let item = rw (c.loop-low.invariant.shape, c.loop-low.invariant.words) at c.item_or_root.ensures.item in
-    let k = told _ _ c.loop-low.found c.loop-low.low c.args.key.now c.item_or_root.result c.loop-low.invariant.known item A s in
-    (k.0, record { within = omega arith; known = k.1; none_longer = λ m lt le. c.loop-low.invariant.longest A s m (omega arith) le }, k.2)
+pub returns-else-low-eq0-clause-longest : goal.returns-else-low-eq0-clause-longest
+returns-else-low-eq0-clause-longest g c = λ A s.
+    let known = c.loop-low.invariant.known (omega arith) A s in
+    (known.0, record { within = omega arith; known = known.1; none_longer = λ m lt le. c.loop-low.invariant.longest A s m (omega arith) le }, known.2)

@@ -1,6 +1,4 @@
 use Rattle.std.proofs.Common.{◌≡◌, ◌≤◌, ◌<◌, ◌+◌, ◌-◌, ◌*◌, ℕ, length, take, None}
-use Rattle.std.specs.Prelude.{MatchOption}
-use Rattle.row_words.specs.declared.rows.ItemRow.{ItemRow}
 use Rattle.key_bytes.specs.Fnv.{prefix_hash}
 use Rattle.anchor_rules.specs.Anchors.{Anchors}
 use Rattle.anchor_rules.specs.Items.{item}
@@ -17,7 +15,7 @@ invariant-loop-low g l = record {
   low_high : l.low ≤ l.high;
   high_key : l.high ≤ length l.key;
   hash : l.hash ≡ prefix_hash (g.R.Rows.shape l.fn.rows).salt (take l.low l.key);
-  known : MatchOption l.found (l.low ≡ 0) (λ (item : ItemRow). (A : Anchors) → StandsFor (g.R.Rows.shape l.fn.rows) (g.R.Rows.words l.fn.rows) A → Tells A (take l.low l.key) item);
+  known : 0 < l.low → (A : Anchors) → StandsFor (g.R.Rows.shape l.fn.rows) (g.R.Rows.words l.fn.rows) A → Tells A (take l.low l.key) l.item;
   longest : (A : Anchors) → StandsFor (g.R.Rows.shape l.fn.rows) (g.R.Rows.words l.fn.rows) A → (m : ℕ) → l.high < m → m ≤ length l.key → item A (take m l.key) ≡ None;
   cost : (A : Anchors) → StandsFor (g.R.Rows.shape l.fn.rows) (g.R.Rows.words l.fn.rows) A → (c : ℕ) → MostInBucket (g.R.Rows.shape l.fn.rows) A c → Left (l.high - l.low) l.steps (l.fn.steps + length_digits A l.key * c) c;
 }
