@@ -1,6 +1,6 @@
 //! Splitting a leaf.
 
-ghost use Rattle.std.specs.Prelude.{ℕ, ◌≡◌, ◌≢◌, ◌-◌, ◌<◌, ◌≤◌, [], length, take, drop, true, IfOk, IfErr, OnOk, OnErr, vec_capacity};
+ghost use Rattle.std.specs.Prelude.{ℕ, ◌≡◌, ◌≢◌, ◌<◌, ◌≤◌, [], length, take, drop, true, IfOk, IfErr, OnOk, OnErr, vec_capacity};
 ghost use Rattle.anchor_rules.specs.Anchors.{has_leaf};
 ghost use Rattle.leaf_table.specs.Changes.{IsSplit, parting, stay_count};
 ghost use Rattle.leaf_table.specs.Facts.{IsSplitFault};
@@ -11,15 +11,16 @@ use crate::{LeafTable, SplitFault};
 use key_bytes::{Bound, Bytes, Key, separator};
 use leaf_store::Leaf;
 use meta_trie::{add_anchor, free_leaf_from};
-use row_words::{RowsMut, Shape};
+use row_words::RowsMut;
 use std::alloc::{AllocError, Global};
+use std::mem;
 
 // What a split needs before any row changes.
 #[derive(Drop)]
 struct Parting {
     // The anchor of the new leaf.
     anchor: Key,
-    // An empty leaf with room for the keys that go.
+    // An empty leaf with room for the lower half of the keys.
     room: Leaf<Bytes>,
 }
 
@@ -27,8 +28,8 @@ impl LeafTable {
     /// Splits a leaf: its upper half goes to the least leaf that isn't live. Of an odd number of
     /// keys the greater half stays. It reads one word of each leaf's row up to that leaf, beginning
     /// behind the one that the split before took, or at a lesser one that was merged away since. The
-    /// new leaf has room for one key more than `soft` from the start, or for those that it gets, if
-    /// these are more.
+    /// upper half takes the leaf's memory along, and the lower one moves into just as much as it needs:
+    /// so keys that come in their order, of which no more goes to the lower half, leave no room behind.
     pub fn split(&mut self, leaf: u32) -> Result<(), SplitFault>
         requires live { has_leaf self.old.anchors leaf ≡ true }
         requires two { 2 ≤ size_at self.old leaf }
@@ -37,8 +38,8 @@ impl LeafTable {
         ensures refused { OnErr result (self.new ≡ self.old) }
     {
         let right = free_leaf_from(&mut self.rows, self.full_below)?;
-        let shape = self.rows.layout();
-        let parting = part_of(self.alloc, &mut self.leaves[leaf as usize], &shape)?;
+        let salt = self.rows.layout().salt;
+        let parting = part_of(self.alloc, &mut self.leaves[leaf as usize], salt)?;
         add_anchor(&mut self.rows, leaf, &parting.anchor, right)?;
         halve(
             &mut self.leaves,
@@ -52,47 +53,46 @@ impl LeafTable {
     }
 }
 
-// The anchor that parts the halves of a leaf, and room for the upper one.
-fn part_of(alloc: Global, leaf: &mut Leaf<Bytes>, shape: &Shape) -> Result<Parting, AllocError>
+// The anchor that parts the halves of a leaf, and room for the lower one.
+fn part_of(alloc: Global, leaf: &mut Leaf<Bytes>, salt: u64) -> Result<Parting, AllocError>
     requires { 2 ≤ length leaf.old.map }
     ensures map { leaf.new.map ≡ leaf.old.map }
     ensures salt { leaf.new.salt ≡ leaf.old.salt }
     ensures anchor { IfOk result (λ p. p.anchor ≡ parting leaf.old.map) }
     ensures empty { IfOk result (λ p. p.room.map ≡ []) }
-    ensures salted { IfOk result (λ p. p.room.salt ≡ shape.now.salt) }
-    ensures room { IfOk result (λ p. length leaf.old.map - stay_count (length leaf.old.map) ≤ p.room.spare) }
+    ensures salted { IfOk result (λ p. p.room.salt ≡ salt) }
+    ensures room { IfOk result (λ p. stay_count (length leaf.old.map) ≤ p.room.spare) }
 {
     leaf.pairs_between(&Bound::Low, &Bound::High)?;
-    let go = leaf.len() / 2;
-    let stay = leaf.len() - go;
+    let stay = leaf.len() - leaf.len() / 2;
     let anchor = separator(alloc, leaf.at(stay - 1).0, leaf.at(stay).0)?;
-    let mut room = Leaf::new(alloc, shape.salt);
-    // A leaf that is split once it has more than `soft` keys doesn't grow before.
-    room.reserve(go.max(shape.soft as usize + 1))?;
+    let mut room = Leaf::new(alloc, salt);
+    room.reserve(stay)?;
     Ok(Parting { anchor, room })
 }
 
-// Moves the upper half of a leaf into an empty one with room for it, which gets a number.
+// Moves the lower half of a leaf into an empty one with room for it, which gets the leaf's number. The
+// leaf with the upper half gets another.
 fn halve(leaves: &mut Vec<Leaf<Bytes>>, left: usize, right: usize, room: Leaf<Bytes>)
     requires left { left < length leaves.old.items }
     requires right { right ≤ length leaves.old.items }
     requires reserved { right < vec_capacity leaves.old }
     requires apart { left ≢ right }
     requires empty { room.map ≡ [] }
-    requires room { length (map_at leaves.old.items left) - stay_count (length (map_at leaves.old.items left)) ≤ room.spare }
+    requires salted { HaveSalt leaves.old.items room.salt }
+    requires room { stay_count (length (map_at leaves.old.items left)) ≤ room.spare }
     ensures stay { map_at leaves.new.items left ≡ take (stay_count (length (map_at leaves.old.items left))) (map_at leaves.old.items left) }
     ensures go { map_at leaves.new.items right ≡ drop (stay_count (length (map_at leaves.old.items left))) (map_at leaves.old.items left) }
     ensures others { (other : ℕ) → other ≢ left → other ≢ right → map_at leaves.new.items other ≡ map_at leaves.old.items other }
     ensures listed { right < length leaves.new.items }
     ensures kept { length leaves.old.items ≤ length leaves.new.items }
     ensures capacity { vec_capacity leaves.new ≡ vec_capacity leaves.old }
-    ensures salts { (salt : ℕ) → HaveSalt leaves.old.items salt → room.salt ≡ salt → HaveSalt leaves.new.items salt }
+    ensures salts { HaveSalt leaves.new.items room.salt }
 {
-    let mut upper = room;
-    match leaves[left].split_off(&mut upper) {
-        Ok(()) => enlist(leaves, right, upper),
-        Err(_) => unreachable!(),
-    }
+    let mut lower = room;
+    leaves[left].split_front(&mut lower);
+    let upper = mem::replace(&mut leaves[left], lower);
+    enlist(leaves, right, upper);
 }
 
 // Gives a leaf a number: one that there is, or the next one.

@@ -1,10 +1,12 @@
-use Rattle.std.proofs.Common.{◌≡◌, ◌∙◌, ℕ, List, length, true, refl, ap, subst, arith}
+use Rattle.std.proofs.Common.{◌≡◌, ◌∙◌, ℕ, List, length, true, refl, sym, ap, subst, arith}
+use Rattle.std.specs.Prelude.{slice_set}
 use Rattle.std.proofs.lemmas.List.{length-set}
 use Rattle.anchor_rules.specs.Anchors.{Anchors, has_leaf}
 use Rattle.leaf_store.specs.Leaf.{LeafMap}
 use Rattle.row_words.specs.VecRows.{shape_of, words_of}
 use Rattle.row_words.specs.declared.shape.Shape.{Shape}
 use Rattle.leaf_table.specs.Facts.{IsSplitFault}
+use Rattle.leaf_table.specs.Leaves.{HaveSalt}
 use Rattle.leaf_table.specs.Table.{size_at}
 use Rattle.leaf_table.proofs.LiveLeaves.{live_moved, live_split}
 use Rattle.meta_trie.proofs.OnlyOne.{stands_only}
@@ -61,6 +63,12 @@ halve-requires-clause-right c =
     let n = length-set c.self.inside.leaves.items c.args.leaf c.part_of.new.leaf in
     omega (arith, next, n)
 
+pub halve-requires-clause-salted : goal.halve-requires-clause-salted
+halve-requires-clause-salted c =
+    let lt = live_place _ _ _ _ c.self.invariant.0 _ c.self.view_is c.args.leaf c.requires.live in
+    let room : c.in_ok-parting.parting.room.salt ≡ (shape_of c.self.inside.rows).salt = c.in_ok-parting.ensures.salted ∙ ap (λ (k : Shape). k.salt) (c.layout-salt.ensures ∙ c.free_leaf_from.ensures.shape) in
+    subst (HaveSalt (slice_set c.self.inside.leaves.items c.args.leaf c.part_of.new.leaf)) (sym room) (same_written _ _ _ _ c.self.invariant.0 _ c.self.view_is c.args.leaf c.part_of.new.leaf c.index_mut.result.now lt c.index_mut.ensures.value c.part_of.ensures.salt c.part_of.ensures.map).whole.salts
+
 pub invariant_of-self-in_err-add_anchor : goal.invariant_of-self-in_err-add_anchor
 invariant_of-self-in_err-add_anchor c =
     let lt = live_place _ _ _ _ c.self.invariant.0 _ c.self.view_is c.args.leaf c.requires.live in
@@ -82,11 +90,11 @@ pub invariant_of-self-2 : goal.invariant_of-self-2
 invariant_of-self-2 c =
     let lt = live_place _ _ _ _ c.self.invariant.0 _ c.self.view_is c.args.leaf c.requires.live in
     let n : length c.index_mut.result.now.map ≡ size_at c.args.self.now c.args.leaf = ap (λ (l : LeafMap (List ℕ)). length l.map) c.index_mut.ensures.value ∙ size_read _ _ _ _ c.self.invariant.0 _ c.self.view_is c.args.leaf _ lt in
-    let room : c.in_ok-parting.parting.room.salt ≡ (shape_of c.self.inside.rows).salt = c.in_ok-parting.ensures.salted ∙ ap (λ (k : Shape). k.salt) (c.layout-shape.ensures ∙ c.free_leaf_from.ensures.shape) in
+    let room : c.in_ok-parting.parting.room.salt ≡ (shape_of c.self.inside.rows).salt = c.in_ok-parting.ensures.salted ∙ ap (λ (k : Shape). k.salt) (c.layout-salt.ensures ∙ c.free_leaf_from.ensures.shape) in
     let added = split_told _ _ _ _ (words_of c.add_anchor.new.rows) c.args.leaf c.in_ok-right.right c.in_ok-parting.parting.anchor c.free_leaf_from.ensures.shape c.free_leaf_from.ensures.words c.in_ok-add_anchor.ensures.ok in (
       (halved _ _ _ _ c.self.invariant.0 _ c.self.view_is c.args.leaf c.part_of.new.leaf c.index_mut.result.now lt c.index_mut.ensures.value c.part_of.ensures.salt (shape_of c.add_anchor.new.rows) (words_of c.add_anchor.new.rows) c.halve.new.leaves.items c.in_ok-right.right c.in_ok-parting.parting.anchor
           (c.add_anchor.ensures.shape ∙ c.free_leaf_from.ensures.shape) c.requires.live c.part_of.ensures.map (omega (arith, n, c.requires.two)) (c.in_ok-right.ensures.ok _ c.self.invariant.0.stands) c.in_ok-parting.ensures.anchor (added _ c.self.invariant.0.stands)
-          c.halve.ensures.listed c.halve.ensures.kept (λ all. c.halve.ensures.salts _ all room) c.halve.ensures.stay c.halve.ensures.go c.halve.ensures.others).0,
+          c.halve.ensures.listed c.halve.ensures.kept (λ all. subst (HaveSalt c.halve.new.leaves.items) room c.halve.ensures.salts) c.halve.ensures.stay c.halve.ensures.go c.halve.ensures.others).0,
       live_split _ _ _ _ (c.add_anchor.ensures.shape ∙ c.free_leaf_from.ensures.shape) _ _ c.self.view_is c.args.leaf c.in_ok-right.right c.in_ok-parting.parting.anchor c.requires.live (c.in_ok-right.ensures.ok _ c.self.invariant.0.stands) (added _ c.self.invariant.0.stands),
       room_moved _ _ _ _ (c.add_anchor.ensures.shape ∙ c.free_leaf_from.ensures.shape) c.halve.ensures.capacity c.self.invariant.2,
     )
@@ -95,8 +103,8 @@ pub returns-clause-ok : goal.returns-clause-ok
 returns-clause-ok c =
     let lt = live_place _ _ _ _ c.self.invariant.0 _ c.self.view_is c.args.leaf c.requires.live in
     let n : length c.index_mut.result.now.map ≡ size_at c.args.self.now c.args.leaf = ap (λ (l : LeafMap (List ℕ)). length l.map) c.index_mut.ensures.value ∙ size_read _ _ _ _ c.self.invariant.0 _ c.self.view_is c.args.leaf _ lt in
-    let room : c.in_ok-parting.parting.room.salt ≡ (shape_of c.self.inside.rows).salt = c.in_ok-parting.ensures.salted ∙ ap (λ (k : Shape). k.salt) (c.layout-shape.ensures ∙ c.free_leaf_from.ensures.shape) in
+    let room : c.in_ok-parting.parting.room.salt ≡ (shape_of c.self.inside.rows).salt = c.in_ok-parting.ensures.salted ∙ ap (λ (k : Shape). k.salt) (c.layout-salt.ensures ∙ c.free_leaf_from.ensures.shape) in
     let added = split_told _ _ _ _ (words_of c.add_anchor.new.rows) c.args.leaf c.in_ok-right.right c.in_ok-parting.parting.anchor c.free_leaf_from.ensures.shape c.free_leaf_from.ensures.words c.in_ok-add_anchor.ensures.ok in
     (halved _ _ _ _ c.self.invariant.0 _ c.self.view_is c.args.leaf c.part_of.new.leaf c.index_mut.result.now lt c.index_mut.ensures.value c.part_of.ensures.salt (shape_of c.add_anchor.new.rows) (words_of c.add_anchor.new.rows) c.halve.new.leaves.items c.in_ok-right.right c.in_ok-parting.parting.anchor
     (c.add_anchor.ensures.shape ∙ c.free_leaf_from.ensures.shape) c.requires.live c.part_of.ensures.map (omega (arith, n, c.requires.two)) (c.in_ok-right.ensures.ok _ c.self.invariant.0.stands) c.in_ok-parting.ensures.anchor (added _ c.self.invariant.0.stands)
-    c.halve.ensures.listed c.halve.ensures.kept (λ all. c.halve.ensures.salts _ all room) c.halve.ensures.stay c.halve.ensures.go c.halve.ensures.others).1
+    c.halve.ensures.listed c.halve.ensures.kept (λ all. subst (HaveSalt c.halve.new.leaves.items) room c.halve.ensures.salts) c.halve.ensures.stay c.halve.ensures.go c.halve.ensures.others).1
