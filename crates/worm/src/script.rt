@@ -11,11 +11,13 @@ use session::SessionEnd;
 use sole_sessions::serve_sole;
 use solo_index::Solo;
 use std::alloc::Global;
+use std::mem;
 
 /// The most bytes of an input, which are 2^40.
 const MOST_BYTES: u64 = 1_099_511_627_776;
 
-/// Serves the lines of the source as one session, which begins with an empty index of this shape.
+/// Serves the lines of the source as one session, which begins with an empty index of this shape. The
+/// index keeps its memory until the process ends.
 pub fn run_script<S: Source, K: Sink>(
     alloc: Global,
     shape: &Shape,
@@ -34,6 +36,8 @@ pub fn run_script<S: Source, K: Sink>(
     match Solo::make(alloc, shape) {
         Ok(mut index) => {
             let end = serve_sole(alloc, &mut index, source, sink, MOST_BYTES);
+            // The process ends soon, and its memory with it: giving back each leaf before takes longer.
+            mem::forget(index);
             Outcome {
                 status: status_of(end),
             }
