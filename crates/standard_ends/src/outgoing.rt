@@ -1,5 +1,5 @@
 //! Bytes between a sink and its writer.
-ghost use Rattle.std.specs.Prelude.{◌≡◌, ◌<◌, ◌≤◌, ◌≢◌, ◌↔◌, [], false, length, take, IsTrue, IfOk, IfSome, IfNone, Err};
+ghost use Rattle.std.specs.Prelude.{◌≡◌, ◌<◌, ◌≤◌, ◌≢◌, ◌↔◌, [], false, true, length, take, IsTrue, IfOk, IfSome, IfNone, IsSome, Err};
 ghost use Rattle.std.specs.Bool.{OnTrue, OnFalse};
 ghost use Rattle.std.specs.Io.{ReadsAtMost, WritesAtMost};
 ghost use Rattle.std.specs.Io.Buffered.{reader_buffer, reader_inner, reader_remaining};
@@ -100,6 +100,7 @@ impl<W: Write> Outgoing<W> {
         ensures whole { OnTrue result (is_broken self.new ≡ false) }
         ensures broken { OnFalse result (IsTrue (is_broken self.new)) }
         ensures once { IsTrue (is_broken self.old) → self.new ≡ self.old }
+        ensures idle { waiting self.old ≡ [] → is_broken self.old ≡ false → result ≡ true }
     {
         if self.broken {
             return false;
@@ -150,6 +151,7 @@ impl<W: Write> Outgoing<W> {
         W: Drop,
         ensures all { IfSome result (λ w. Keeps (passed W.contents self) (W.contents w)) }
         ensures broken { IsTrue (is_broken self) → result ≡ None }
+        ensures idle { waiting self ≡ [] → is_broken self ≡ false → IsSome result }
     {
         if self.hand_on() {
             let Outgoing { writer, .. } = self;
