@@ -1,6 +1,6 @@
 //! Looking for a key, and at the leaves.
 
-ghost use Rattle.std.specs.Prelude.{◌≡◌, ◌+◌, ◌-◌, ◌<◌, ℕ, Option, Some, None, MatchOption, true};
+ghost use Rattle.std.specs.Prelude.{◌≡◌, ◌+◌, ◌-◌, ◌<◌, Option, Some, None, MatchOption, true};
 ghost use Rattle.key_bytes.specs.Fnv.{prefix_hash};
 ghost use Rattle.anchor_rules.specs.Anchors.{target, has_leaf};
 ghost use Rattle.map_model.specs.Maps as maps;

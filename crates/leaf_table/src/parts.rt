@@ -1,9 +1,7 @@
 //! Parts of the map.
 
-ghost use Rattle.std.specs.Prelude.{ℕ, ◌≡◌, ◌≢◌, ◌-◌, ◌<◌, ◌≤◌, [], ◌++◌, length, take, drop, IsTrue, IfOk, OnOk, OnErr, Option, List};
-ghost use Rattle.std.specs.Option.{option_copied};
+ghost use Rattle.std.specs.Prelude.{◌≡◌, ◌≢◌, ◌-◌, ◌<◌, ◌≤◌, [], length, take, drop, IsTrue, IfOk, OnOk, OnErr, Option};
 ghost use Rattle.key_bytes.specs.Bound.{bound_cmp};
-ghost use Rattle.anchor_rules.specs.Anchors.{span};
 ghost use Rattle.map_model.specs.Maps.{between};
 ghost use Rattle.row_words.specs.VecRows.{shape_of, words_of};
 ghost use Rattle.meta_trie.specs.Stands.{StandsFor, anchors_of};

@@ -1,7 +1,6 @@
 //! A table with its leaves.
 
-ghost use Rattle.std.specs.Prelude.{ℕ, ◌≡◌, ◌<◌, ◌≤◌, ◌∷◌, [], length, replicate, IfOk, IfErr, OnOk, vec_capacity};
-ghost use Rattle.leaf_store.specs.Leaf.{LeafMap};
+ghost use Rattle.std.specs.Prelude.{ℕ, ◌≡◌, ◌<◌, ◌≤◌, ◌∷◌, [], length, IfOk, IfErr, vec_capacity};
 ghost use Rattle.row_words.specs.VecRows.{shape_of, words_of};
 ghost use Rattle.row_words.specs.Shape.{IsShape};
 ghost use Rattle.meta_trie.specs.Stands.{StandsFor};

@@ -1,5 +1,5 @@
 //! A store over one table with its leaves.
-ghost use Rattle.std.specs.Prelude.{◌≡◌, ◌≢◌, ◌++◌, [], ◌∷◌, ◌≤◌, List, ℕ, length, IfOk, IfErr, OnOk, OnErr, Some, None, Ok, Err, true};
+ghost use Rattle.std.specs.Prelude.{◌≡◌, ◌≢◌, ◌++◌, [], ◌∷◌, ◌≤◌, List, length, IfOk, IfErr, OnErr, Some, None, Ok, Err, true};
 ghost use Rattle.std.specs.Bool.{OnFalse, OnTrue};
 ghost use Rattle.key_bytes.specs.Bound.{bound_cmp};
 ghost use Rattle.map_model.specs.Calls.{Put as PutCall, Del, answer_of};

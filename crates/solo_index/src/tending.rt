@@ -1,7 +1,7 @@
 //! What is done about a leaf's size behind a change of its keys.
 
 ghost use Rattle.std.specs.Prelude.{ℕ, ◌≡◌, ◌+◌, ◌≤◌, true, MatchOption};
-ghost use Rattle.anchor_rules.specs.Anchors.{has_leaf, adjacent};
+ghost use Rattle.anchor_rules.specs.Anchors.{has_leaf};
 ghost use Rattle.leaf_table.specs.Facts.{IsBefore, IsBehind};
 ghost use Rattle.leaf_table.specs.Table.{size_at};
 ghost use Rattle.solo_index.specs.Tending.{CanMerge, AreMergeable, TendsLarge, TendsSmall};

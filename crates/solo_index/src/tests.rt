@@ -229,19 +229,19 @@ fn same_pairs(page: &Page, want: &Page) -> bool {
 }
 
 // One of 80 keys of one or two letters.
-fn some_key(alloc: Global, seed: u32) -> Option<Key> {
-    let bytes = [b'a' + (seed >> 28) as u8, b'a' + (seed >> 24) as u8 % 4];
-    let length = 1 + (seed >> 20) as usize % 2;
+fn some_key(alloc: Global, draw: u32) -> Option<Key> {
+    let bytes = [b'a' + (draw >> 28) as u8, b'a' + (draw >> 24) as u8 % 4];
+    let length = 1 + (draw >> 20) as usize % 2;
     Key::new(alloc, &bytes[..length]).ok()
 }
 
 // Makes one call of both stores, and says whether they answer the same.
-fn same_call(alloc: Global, pair: &mut Pair, pages: &mut (Page, Page), seed: u32) -> bool {
-    match (some_key(alloc, seed), (seed >> 16) % 4) {
+fn same_call(alloc: Global, pair: &mut Pair, pages: &mut (Page, Page), draw: u32) -> bool {
+    match (some_key(alloc, draw), (draw >> 16) % 4) {
         (Some(key), 0) => pair.del(&key),
         (Some(key), 1) => pair.get(&key),
         (Some(key), 2) => pair.part(key, &mut pages.0, &mut pages.1) == Ok(true),
-        (Some(key), _) => pair.put(&key, seed.to_be_bytes()),
+        (Some(key), _) => pair.put(&key, draw.to_be_bytes()),
         (None, _) => false,
     }
 }
@@ -256,10 +256,10 @@ fn answers_as_the_plain_map(rt: HostRuntime) -> Result<(), Fail> {
         found: Vec::new(alloc),
         want: Vec::new(alloc),
     };
-    let mut seed = 7_u32;
+    let mut draw = 7_u32;
     for i in 0..2_000_u32 {
-        seed = seed.wrapping_mul(1_664_525).wrapping_add(1_013_904_223);
-        assert!(rt; same_call(alloc, &mut pair, &mut pages, seed), "call {i}");
+        draw = draw.wrapping_mul(1_664_525).wrapping_add(1_013_904_223);
+        assert!(rt; same_call(alloc, &mut pair, &mut pages, draw), "call {i}");
     }
     Ok(())
 }
