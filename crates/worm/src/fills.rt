@@ -10,9 +10,10 @@ use outside::Sink;
 use row_words::Shape;
 use solo_index::Solo;
 use std::alloc::Global;
+use std::mem;
 
 /// Serves the lines that a number and a count make as one session, which begins with an empty index of this shape,
-/// and writes the summary of its replies.
+/// and writes the summary of its replies. The index keeps its memory until the process ends.
 pub fn run_fill<K: Sink>(
     alloc: Global,
     shape: &Shape,
@@ -28,6 +29,8 @@ pub fn run_fill<K: Sink>(
     match Solo::make(alloc, shape) {
         Ok(mut index) => {
             let end = fill(alloc, &mut index, number, count, sink);
+            // As at the end of a script.
+            mem::forget(index);
             Outcome {
                 status: status_of(end),
             }

@@ -1,5 +1,5 @@
 //! The program as a call over any source and sink.
-ghost use Rattle.std.specs.Prelude.{◌≡◌, ◌≢◌, ◌↔◌, None, map, string_bytes};
+ghost use Rattle.std.specs.Prelude.{◌≡◌, ◌↔◌, None, map, string_bytes};
 ghost use Rattle.command_line.specs.Commands.{command};
 ghost use Rattle.counts.specs.Counts.{Rose};
 ghost use Rattle.worm.specs.Commands.{Did};
