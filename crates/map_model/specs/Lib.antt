@@ -1,4 +1,5 @@
 pub mod Calls
+pub mod Halves
 pub mod History
 pub mod Maps
 pub mod Ordered
