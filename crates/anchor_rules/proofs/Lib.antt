@@ -11,3 +11,5 @@ pub mod Ats
 pub mod Found
 pub mod Parts
 pub mod Sizes
+pub mod Neighbours
+pub mod Longest

@@ -1,5 +1,6 @@
 -- The four changes that keep the count.
 use Rattle.std.proofs.Common.{◌≡◌, ℕ, ◌+◌, ◌-◌, ◌*◌, ◌/◌, ◌<◌, ◌≤◌, List, [], ◌∷◌, ◌++◌, length, length-append, sym, ap, ◌∙◌, arith}
+use Rattle.std.proofs.Math.Nat.{mul-le-mul_left}
 use Rattle.anchor_rules.specs.Tally.{excess, Tally}
 
 pub excess_append : (h : ℕ) (xs ys : List ℕ) → excess h (xs ++ ys) ≡ excess h xs + excess h ys
@@ -67,3 +68,11 @@ module _ (front back : List ℕ) (h p v : ℕ) where
       let g = t.grown in
       let l = t.changed in
       record { grown = omega arith; changed = omega arith }
+
+-- more new keys, and fewer changes of anchors
+pub tally_looser : (sizes : List ℕ) (h p q v w : ℕ) → p ≤ q → w ≤ v → Tally sizes h p v → Tally sizes h q w
+tally_looser sizes h p q v w more less t =
+    let g = t.grown in
+    let c = t.changed in
+    let f : h * (w + length sizes - 1) ≤ h * (v + length sizes - 1) = mul-le-mul_left h (omega arith) in
+    record { grown = omega arith; changed = omega arith }
