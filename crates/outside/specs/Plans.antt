@@ -27,3 +27,7 @@ after_call p = record {
   calls = next_call p;
   faults = if fails_next p then min (p.faults + 1) (2 ^ 64 - 1) else p.faults;
 }
+
+-- after a failure that wasn't planned
+abbrev pub faulted : Planned → Planned
+faulted p = record p { faults = min (p.faults + 1) (2 ^ 64 - 1) }

@@ -2,6 +2,9 @@
 //! in memory, whose contracts tell each byte.
 #![tactic(auto)]
 
+mod door;
+mod gate;
+mod mem_door;
 mod memory;
 mod plan;
 mod sink;
@@ -10,6 +13,9 @@ mod stop;
 #[cfg(test)]
 mod tests;
 
+pub use door::Door;
+pub use gate::{Gate, OpenGate};
+pub use mem_door::MemDoor;
 pub use memory::{MemSink, MemSource};
 pub use sink::Sink;
 pub use source::Source;

@@ -14,7 +14,7 @@ pub(crate) struct Plan {
 }
 
 impl Plan {
-    ghost use Rattle.outside.specs.Plans.{planned, fails_next, after_call};
+    ghost use Rattle.outside.specs.Plans.{planned, fails_next, after_call, faulted};
 
     pub(crate) fn new(fails: Vec<u64>) -> Plan
         ensures { planned result ≡ record { fails = fails.items; calls = 0; faults = 0 } }
@@ -39,5 +39,14 @@ impl Plan {
             self.faults = raise(self.faults);
         }
         fails
+    }
+
+    /// Counts a failure that wasn't planned.
+    pub(crate) fn count_fault(&mut self)
+        ensures after { planned self.new ≡ faulted (planned self.old) }
+        ensures rose { Rose self.old.faults self.new.faults }
+        ensures kept { self.old.faults ≤ self.new.faults }
+    {
+        self.faults = raise(self.faults);
     }
 }
