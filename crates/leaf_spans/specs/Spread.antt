@@ -1,5 +1,5 @@
 -- The pairs of a map, spread over the leaves of anchors.
-use Rattle.std.specs.Prelude.{◌≡◌, ℕ, List, [], ◌∷◌, ◌++◌, length, Option, Some, None}
+use Rattle.std.specs.Prelude.{◌≡◌, ℕ, [], ◌∷◌, ◌++◌, length, Option, Some, None}
 use Rattle.anchor_rules.specs.Anchors.{Anchors, Span, in_span, span}
 use Rattle.map_model.specs.Maps.{Pairs, IsMap, keep}
 
