@@ -1,7 +1,10 @@
 pub mod Calls
+pub mod Counts
 pub mod Halving
 pub mod Merging
 pub mod PartEnds
 pub mod Partners
 pub mod Ranges
+pub mod Replies
+pub mod Sizes
 pub mod Spreads
