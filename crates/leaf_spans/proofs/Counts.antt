@@ -1,6 +1,7 @@
 -- What calls, splits and merges do to the bounds on leaves and anchors.
-use Rattle.std.proofs.Common.{◌≡◌, ◌≢◌, ℕ, ◌+◌, ◌-◌, ◌/◌, ◌<◌, ◌≤◌, List, [], ◌∷◌, length, true, false, Option, Some, None, is_some, inl, inr, refl, sym, ap, ◌∙◌, subst, arith, true≢false}
+use Rattle.std.proofs.Common.{◌≡◌, ◌≢◌, ℕ, ◌+◌, ◌-◌, ◌*◌, ◌/◌, ◌<◌, ◌≤◌, List, [], ◌∷◌, length, true, false, Option, Some, None, is_some, inl, inr, refl, sym, ap, ◌∙◌, subst, arith, true≢false}
 use Rattle.std.specs.List.{AllByRecursion}
+use Rattle.std.proofs.lemmas.List.{length-map}
 use Rattle.anchor_rules.specs.Anchors.{Anchors, Span, span, has_leaf, Rises, AreAnchors, with_split, adjacent, with_merge}
 use Rattle.anchor_rules.specs.Tally.{sizes_of}
 use Rattle.anchor_rules.proofs.Longest.{longest_split, longest_merge}
@@ -122,3 +123,16 @@ module _ {V : Type 0} (A : Anchors) (are : AreAnchors A) (m : Pairs V) (up : IsM
   pub few_merge_in : (hard : ℕ) → merge_sum ≤ hard → AreFew (size_in A m) hard → AreFew (size_in (with_merge A r) m) hard
   few_merge_in hard within few =
       few_joined (size_in A m) (size_in (with_merge A r) m) hard l r few (merge_size_other A m l r are.rises up next) (omega arith) (merge_size A m l r are.rises up next) (merge_size_emptied A m l r are.rises up next)
+
+-- what the count bounds: how many leaves there are, and how many changes of anchors there were
+pub leaves_bounded : (A : Anchors) (size : ℕ → ℕ) (soft p v longest : ℕ) → Counted A size soft p v longest → soft / 2 * (length A - 1) ≤ p
+leaves_bounded A size soft p v longest c =
+    let g = c.tally.grown in
+    let n : soft / 2 * (length (sizes_of size A) - 1) ≡ soft / 2 * (length A - 1) = ap (λ k. soft / 2 * (k - 1)) (length-map A (λ (x : List ℕ × ℕ). size x.1)) in
+    omega (arith, g, n)
+
+pub changes_bounded : (A : Anchors) (size : ℕ → ℕ) (soft p v longest : ℕ) → Counted A size soft p v longest → soft / 2 * (v + length A - 1) ≤ 2 * p
+changes_bounded A size soft p v longest c =
+    let g = c.tally.changed in
+    let n : soft / 2 * (v + length (sizes_of size A) - 1) ≡ soft / 2 * (v + length A - 1) = ap (λ k. soft / 2 * (v + k - 1)) (length-map A (λ (x : List ℕ × ℕ). size x.1)) in
+    omega (arith, g, n)

@@ -6,3 +6,7 @@ mod decisions;
 mod laws;
 
 pub use decisions::{Side, Wanted, partner, wish};
+pub use laws::{
+    calls_in_spans, chosen_neighbours, counted_keys, few_keys, parted_halves, spread_changes,
+    spread_leaves, spread_moves,
+};
