@@ -35,7 +35,7 @@ impl Anchors {
         ensures { IfOk result (λ a. a ≡ ([], leaf) ∷ []) }
     {
         let mut rows = Vec::new(alloc);
-        rows.push((Bytes::of(alloc, &[])?, leaf))?;
+        rows.push((Bytes::copied(alloc, &[])?, leaf))?;
         Ok(Anchors { rows })
     }
 
@@ -120,7 +120,7 @@ impl Anchors {
         match place_of(&self.rows, leaf) {
             Some(i) => {
                 let alloc = *self.rows.allocator();
-                let copied = Bytes::of(alloc, anchor.bytes())?;
+                let copied = Bytes::copied(alloc, anchor.bytes())?;
                 self.rows.insert(i + 1, (copied, new_leaf))?;
             }
             None => unreachable!(),

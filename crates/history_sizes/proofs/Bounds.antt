@@ -7,7 +7,7 @@ use Rattle.key_bytes.proofs.Orders.{same_is, below_not_back, below_not_same, bel
 use Rattle.map_model.specs.Maps.{Pairs, find, keep, with, without}
 use Rattle.map_model.specs.Calls.{Call, New, Set, Get, Put, Del, Part, answer_of, map_after}
 use Rattle.map_model.specs.History.{Entry, map_from, after, IsLegalFrom, IsLegal}
-use Rattle.map_model.proofs.Filters.{all_filter, all_append, all_weaker}
+use Rattle.map_model.proofs.Filters.{all_filter, all_append, all_weaker, length_keep}
 use Rattle.history_sizes.specs.Sizes.{is_new, new_keys, new_length, longest_new}
 
 -- 1 for what was found
@@ -18,11 +18,6 @@ found_count (Some v) = 1
 some_count : {V : Type 0} (o : Option V) → found_count o ≤ 1
 some_count None = omega arith
 some_count (Some v) = omega arith
-
--- a filter keeps no more than there is
-pub length_keep : {V : Type 0} (test : List ℕ → Bool) (m : Pairs V) → length (keep test m) ≤ length m
-length_keep test [] = omega arith
-length_keep test (p ∷ m) = let rest = length_keep test m in elim (test p.0) as (λ b. length (cond b (p ∷ keep test m) (keep test m)) ≤ suc (length m)) [ true ↦ omega arith | false ↦ omega arith ]
 
 module _ {V : Type 0} (p : List ℕ × V) (m low high : Pairs V) (o : Option V) (rest : length low + length high + found_count o ≤ length m) where
   -- one pair more is in one of three places

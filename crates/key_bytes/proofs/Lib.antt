@@ -1,3 +1,4 @@
+pub mod Conditions
 pub mod Hashes
 pub mod Orders
 pub mod Ranks

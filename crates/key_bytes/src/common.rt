@@ -30,7 +30,7 @@ pub fn separator(alloc: Global, a: &Key, b: &Key) -> Result<Key, AllocError>
     let b = b.bytes();
     let n = lcp(a, b);
     let part = &b[..n + 1];
-    // Only memory can be wanting, since these are 1 to 255 bytes.
+    // Only memory can be wanting, since these are no more bytes than `b` has.
     match Key::new(alloc, part) {
         Ok(key) => Ok(key),
         Err(_) => Err(AllocError),

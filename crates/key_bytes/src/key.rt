@@ -3,12 +3,13 @@ ghost use Rattle.std.specs.Prelude.{◌≡◌, IfOk};
 ghost use Rattle.key_bytes.specs.Key.{IsKey, IsKeyAnswer};
 ghost use Rattle.key_bytes.specs.Order.{bytes_cmp};
 
+use crate::LONGEST_KEY;
 use smallvec::SmallVec;
 use std::alloc::{AllocError, Global};
 use std::cmp::Ordering;
 use std::marker::Model;
 
-/// A key of an ordered map: 1 to 255 bytes of any value. Up to 48 of them lie in the key itself, which
+/// A key of an ordered map: 1 to `LONGEST_KEY` bytes of any value. Up to 48 of them lie in the key itself, which
 /// takes 64 bytes, and more than that in an allocation of their own.
 #[derive(Debug, Drop)]
 pub struct Key {
@@ -31,7 +32,7 @@ impl Model for Key {
 pub enum KeyFault {
     /// There are no bytes.
     Empty,
-    /// There are this many bytes, which is more than 255.
+    /// There are this many bytes, which is more than `LONGEST_KEY`.
     TooLong(usize),
     /// The bytes are a key, and there was no memory for a copy of them.
     NoMemory,
@@ -45,7 +46,7 @@ impl Key {
         if bytes.is_empty() {
             return Err(KeyFault::Empty);
         }
-        if bytes.len() > 255 {
+        if bytes.len() > LONGEST_KEY {
             return Err(KeyFault::TooLong(bytes.len()));
         }
         match SmallVec::from_slice(alloc, bytes) {

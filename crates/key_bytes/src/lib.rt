@@ -1,5 +1,5 @@
-//! Keys, which are lists of 1 to 255 bytes, with their order, the ends of ranges of keys, and the
-//! hash of the bytes that a key begins with.
+//! Keys, which are lists of 1 to `LONGEST_KEY` bytes, with their order, the ends of ranges of keys, and
+//! the hash of the bytes that a key begins with.
 #![tactic(auto)]
 
 mod bound;
@@ -7,6 +7,7 @@ mod bytes;
 mod common;
 mod fnv;
 mod key;
+mod limits;
 #[cfg(test)]
 mod tests;
 
@@ -15,3 +16,13 @@ pub use bytes::Bytes;
 pub use common::{lcp, separator};
 pub use fnv::{Fnv, prefix_hash};
 pub use key::{Key, KeyFault};
+pub use limits::{LONGEST_KEY, LONGEST_VALUE};
+
+// Keys, ends of ranges and bytes may go to other threads.
+fn parts_are_send() {
+    is_send::<Key>();
+    is_send::<Bound>();
+    is_send::<Bytes>();
+}
+
+fn is_send<T: Send>() {}

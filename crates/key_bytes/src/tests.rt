@@ -48,12 +48,23 @@ fn ample_memory_is_never_refused(rt: HostRuntime) -> Result<(), Fail> {
 #[test]
 fn lists_of_any_length_are_held(rt: HostRuntime) -> Result<(), Fail> {
     let long = [7; 255];
-    let mut held = Bytes::of(rt.alloc(), b"")?;
+    let mut held = Bytes::copied(rt.alloc(), b"")?;
     for length in [32, 33, 255, 1] {
         held.set(&long[..length])?;
         assert_eq!(rt; held.get(), &long[..length]);
         let key = Key::new(rt.alloc(), &long[..length])?;
         assert_eq!(rt; key.copy()?.bytes(), held.get());
+    }
+    Ok(())
+}
+
+#[test]
+fn vectors_are_held_and_given_back(rt: HostRuntime) -> Result<(), Fail> {
+    let long = [7; 255];
+    for length in [0, 32, 33, 255] {
+        let held = Bytes::of(long[..length].to_vec(rt.alloc())?);
+        assert_eq!(rt; held.get(), &long[..length]);
+        assert_eq!(rt; held.into_vec()?.as_slice(), &long[..length]);
     }
     Ok(())
 }

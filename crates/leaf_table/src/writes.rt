@@ -64,7 +64,7 @@ fn put(
     if write_over(leaf, hash, key, bytes)? {
         return Ok(false);
     }
-    let value = Bytes::of(alloc, bytes)?;
+    let value = Bytes::copied(alloc, bytes)?;
     leaf.reserve_one()?;
     leaf.insert_new(hash, key.copy()?, value);
     Ok(true)

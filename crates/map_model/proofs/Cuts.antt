@@ -17,6 +17,7 @@ use Rattle.key_bytes.specs.declared.bound.Bound.TheVariants.{Low, At, High}
 use Rattle.map_model.specs.Places.{Pair}
 use Rattle.map_model.specs.Maps.{Pairs, IsMap, between}
 use Rattle.map_model.specs.Places.{IsAt, IsGapFor, IsCut}
+use Rattle.map_model.specs.declared.plain.TheConstants.{MOST_PAIRS}
 use Rattle.map_model.specs.Plain.{StopsAtNext}
 use Rattle.key_bytes.proofs.Orders.{less_from, below_trans, below_not_back, not_below_itself, not_below_cases}
 use Rattle.map_model.proofs.Filters.{filter_all, filter_none, all_weaker, all_parts, all_at_take, all_at_drop, all_both}
@@ -125,7 +126,7 @@ module _ (m : Pairs (List ℕ)) (up : IsMap m) (from to : Bound) (i j end : ℕ)
   part_within = key_within to x.0 (subst (λ (p : Pair). is_under to p.0 ≡ true) (sym read) (all_at_take (λ (p : Pair). is_under to p.0 ≡ true) m j end x stop.in_range before stop.lower))
 
   -- it stops at the next pair of the range
-  pub part_stops : (key : List ℕ) (pairs : Pairs (List ℕ)) → key ≡ x.0 → pairs ≡ take (end - i) (drop i m) → end - i ≡ 256 → StopsAtNext m from to (At key) pairs
+  pub part_stops : (key : List ℕ) (pairs : Pairs (List ℕ)) → key ≡ x.0 → pairs ≡ take (end - i) (drop i m) → end - i ≡ MOST_PAIRS → StopsAtNext m from to (At key) pairs
   part_stops key pairs same are count =
       let rest = j - end - 1 in
       let in_range : end < length m = omega (arith, stop.in_range) in

@@ -1,7 +1,8 @@
 -- What a filter keeps, where all or none pass; and what holds of each element.
-use Rattle.std.proofs.Common.{◌≡◌, ℕ, List, [], ◌∷◌, ◌++◌, Bool, true, false, refl, ap, ◌∙◌, cond, take, drop, length, get_or, ◌<◌, ◌≤◌, arith, get_or-take, get_or-drop, length-take, length-drop, ◌+◌, add-zero}
+use Rattle.std.proofs.Common.{◌≡◌, ℕ, List, [], ◌∷◌, ◌++◌, Bool, true, false, refl, ap, ◌∙◌, cond, take, drop, length, get_or, ◌<◌, ◌≤◌, arith, get_or-take, get_or-drop, length-take, length-drop, ◌+◌, add-zero, suc}
 use Rattle.std.specs.Prelude.{filter}
 use Rattle.std.specs.List.{AllByRecursion}
+use Rattle.map_model.specs.Maps.{Pairs, keep}
 use Rattle.std.proofs.lemmas.List.Elements.{recursion_from_All, All-from_recursion}
 
 module _ {X : Type 0} (p : X → Bool) where
@@ -58,3 +59,8 @@ module _ {X : Type 0} (P : X → Type 0) where
   pub all_both : (Q R : X → Type 0) → ((x : X) → P x → Q x → R x) → (xs : List X) → AllByRecursion P xs → AllByRecursion Q xs → AllByRecursion R xs
   all_both Q R both [] p q = tt
   all_both Q R both (x ∷ xs) p q = (both x p.0 q.0, all_both Q R both xs p.1 q.1)
+
+-- no more pairs are kept than there are
+pub length_keep : {V : Type 0} (test : List ℕ → Bool) (m : Pairs V) → length (keep test m) ≤ length m
+length_keep test [] = omega arith
+length_keep test (p ∷ m) = let rest = length_keep test m in elim (test p.0) as (λ b. length (cond b (p ∷ keep test m) (keep test m)) ≤ suc (length m)) [ true ↦ omega arith | false ↦ omega arith ]

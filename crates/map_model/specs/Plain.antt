@@ -3,6 +3,7 @@ use Rattle.std.specs.Prelude.{◌≡◌, ℕ, List, ◌∷◌, ◌++◌, ◌⊎�
 use Rattle.std.specs.List.{AllByRecursion}
 use Rattle.key_bytes.specs.declared.bound.Bound.{Bound}
 use Rattle.key_bytes.specs.declared.bound.Bound.TheVariants.{At}
+use Rattle.map_model.specs.declared.plain.TheConstants.{MOST_PAIRS}
 use Rattle.map_model.specs.Maps.{Pairs, between}
 use Rattle.map_model.specs.History.{Entry, after, IsLegal, IsNumbered}
 
@@ -15,7 +16,7 @@ pub record IsHistoryOf (m : Pairs (List ℕ)) (h : List Entry) : Type 0 where
 
 -- the part stops at the key of the next pair of the range, full
 pub record StopsAtNext (m : Pairs (List ℕ)) (from to upto : Bound) (pairs : Pairs (List ℕ)) : Type 0 where
-  pub full : length pairs ≡ 256
+  pub full : length pairs ≡ MOST_PAIRS
   pub key : List ℕ
   pub value : List ℕ
   pub rest : Pairs (List ℕ)

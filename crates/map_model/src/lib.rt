@@ -8,7 +8,7 @@ mod refusal;
 
 pub use ordered::Ordered;
 pub use page::Page;
-pub use plain::PlainMap;
+pub use plain::{MOST_PAIRS, PlainMap};
 pub use refusal::{Again, ForkFault, Full, Refusal, TableFull};
 
 #[cfg(test)]

@@ -9,10 +9,10 @@ ghost use Rattle.map_model.specs.Refusals.{HasCause, refusal_of, NotAgain, NotFu
 ghost use Rattle.map_model.specs.declared.refusal.Refusal.{Refusal};
 
 use crate::{Page, Refusal};
-use key_bytes::{Bound, Key};
+use key_bytes::{Bound, Key, LONGEST_VALUE};
 use std::cmp::Ordering;
 
-/// An ordered map from keys of 1 to 255 bytes, seen by the histories of calls that it stands for.
+/// An ordered map from keys to values, seen by the histories of calls that it stands for.
 ///
 /// A history that it stood for goes on with each call: behind it, and behind entries of other lanes,
 /// stands the entry of an answered call with the reply given, and no entry of a refused one. Where the
@@ -60,9 +60,9 @@ pub trait Ordered {
         ensures alone { IsTrue (sole self.old) → NotAgain result }
         ensures room { NotFull result };
 
-    /// Sets the value of at most 1,024 bytes at the key, and says whether there was none.
+    /// Sets the value at the key, of at most `LONGEST_VALUE` bytes, and says whether there was none.
     fn put(&mut self, key: &Key, value: &[u8]) -> Result<bool, Refusal>
-        requires { length value.now ≤ 1024 }
+        requires { length value.now ≤ LONGEST_VALUE }
         ensures ok { IfOk result (λ new. Follows (stands self.old) (stands self.new)
             (Enters (lane self.old) (sole self.old) (Put key.now value.now) (was_put new))) }
         ensures refused { OnErr result (Follows (stands self.old) (stands self.new)

@@ -1,10 +1,13 @@
 //! A map in a sorted vector.
-ghost use Rattle.std.specs.Prelude.{◌≡◌, [], ◌∷◌, ◌++◌, ◌≤◌, ◌≢◌, length, IfOk, IfErr, OnOk, OnErr, IsSome, is_some, Some, None};
+ghost use Rattle.std.specs.Prelude.{◌≡◌, [], ◌≤◌, ◌≢◌, length, IfOk, IfErr, OnOk, OnErr, IsSome, is_some, Some, None};
 ghost use Rattle.std.specs.Bool.{OnFalse, OnTrue};
 ghost use Rattle.key_bytes.specs.Bound.{bound_cmp};
 ghost use Rattle.map_model.specs.Maps.{find, with, without, between};
 ghost use Rattle.map_model.specs.Places.{IsAt, IsGapFor, IsCut};
 ghost use Rattle.map_model.specs.Plain.{IsFirstPart, IsHistoryOf};
+ghost use Rattle.map_model.specs.Calls.{Part, Pairs};
+ghost use Rattle.map_model.specs.Ordered.{Follows, EntersLast};
+ghost use Rattle.map_model.specs.declared.refusal.Refusal.TheVariants.{NoMemory};
 
 use crate::{Ordered, Page, Refusal};
 use key_bytes::{Bound, Bytes, Key};
@@ -12,8 +15,8 @@ use std::alloc::{AllocError, Global};
 use std::cmp::Ordering;
 use std::marker::Model;
 
-// The most pairs of one part.
-const MOST_PAIRS: usize = 256;
+/// The most pairs of one part of a `PlainMap`.
+pub const MOST_PAIRS: usize = 256;
 
 /// A map as a vector of its pairs in the order of the keys, for one caller alone.
 ///
@@ -82,13 +85,13 @@ impl PlainMap {
     {
         match self.search(key) {
             Ok(at) => {
-                let value = Bytes::of(self.alloc, value)?;
+                let value = Bytes::copied(self.alloc, value)?;
                 self.pairs[at].1 = value;
                 Ok(false)
             }
             Err(at) => {
                 let key = key.copy()?;
-                let value = Bytes::of(self.alloc, value)?;
+                let value = Bytes::copied(self.alloc, value)?;
                 self.pairs.insert(at, (key, value))?;
                 Ok(true)
             }
@@ -134,8 +137,8 @@ impl PlainMap {
         (self.place(from), self.place(to))
     }
 
-    /// Leaves the first pairs from `from` on in `page`, at most 256, and answers where they end: at
-    /// `to`, or at the key of the next pair.
+    /// Leaves the first pairs from `from` on in `page`, at most `MOST_PAIRS`, and answers where they end:
+    /// at `to`, or at the key of the next pair.
     pub fn first_pairs(
         &self,
         from: &Bound,
@@ -146,7 +149,7 @@ impl PlainMap {
         ensures pairs { IfOk result (λ upto. page.new.pairs ≡ between self.now from.now upto) }
         ensures above { IfOk result (λ upto. bound_cmp from.now upto ≡ Ordering.Less) }
         ensures within { IfOk result (λ upto. bound_cmp upto to.now ≢ Ordering.Greater) }
-        ensures most { length page.new.pairs ≤ 256 }
+        ensures most { length page.new.pairs ≤ MOST_PAIRS }
         ensures end { IfOk result (λ upto. IsFirstPart self.now from.now to.now upto page.new.pairs) }
         ensures cleared { OnErr result (page.new.pairs ≡ []) }
     {
@@ -214,7 +217,20 @@ impl Ordered for PlainMap {
         Ok(self.take(key))
     }
 
-    fn part(&mut self, from: &Bound, to: &Bound, page: &mut Page) -> Result<Bound, Refusal> {
+    fn part(&mut self, from: &Bound, to: &Bound, page: &mut Page) -> Result<Bound, Refusal>
+        requires { bound_cmp from.now to.now ≡ Ordering.Less }
+        ensures ok { IfOk result (λ upto. Follows (IsHistoryOf self.old) (IsHistoryOf self.new)
+            (EntersLast 0 true (Part from.now upto) (Pairs page.new.pairs))) }
+        ensures above { IfOk result (λ upto. bound_cmp from.now upto ≡ Ordering.Less) }
+        ensures within { IfOk result (λ upto. bound_cmp upto to.now ≢ Ordering.Greater) }
+        ensures kept { self.new ≡ self.old }
+        ensures cleared { OnErr result (page.new.pairs ≡ []) }
+        ensures memory { IfErr result (λ refusal. refusal ≡ NoMemory) }
+
+        // How far it goes.
+        ensures most { length page.new.pairs ≤ MOST_PAIRS }
+        ensures end { IfOk result (λ upto. IsFirstPart self.old from.now to.now upto page.new.pairs) }
+    {
         Ok(self.first_pairs(from, to, page)?)
     }
 

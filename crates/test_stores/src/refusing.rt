@@ -1,9 +1,8 @@
 //! A store that refuses by a list.
-ghost use Rattle.std.specs.Prelude.{◌≡◌, IfSome, Some, [], slice_get};
+ghost use Rattle.std.specs.Prelude.{◌≡◌, IfSome, Some, []};
 ghost use Rattle.std.specs.Bool.{OnFalse};
-ghost use Rattle.map_model.specs.Refusals.{HasCause};
 ghost use Rattle.map_model.specs.Plain.{IsHistoryOf};
-ghost use Rattle.test_stores.specs.Refusing.{IsNext, IsForAny, Refuses, counted};
+ghost use Rattle.test_stores.specs.Refusing.{IsNext, IsForAny, Refuses};
 
 use key_bytes::{Bound, Key};
 use map_model::{Ordered, Page, PlainMap, Refusal};

@@ -6,7 +6,7 @@ ghost use Rattle.map_model.specs.History.{Entry, after};
 ghost use Rattle.map_model.specs.Ordered.{Follows, got};
 ghost use Rattle.test_stores.specs.Walks.{PutsThenGets, Goes, IsTold, Walks};
 
-use key_bytes::{Bound, Key};
+use key_bytes::{Bound, Key, LONGEST_VALUE};
 use map_model::{Ordered, Page, Refusal};
 use std::alloc::{AllocError, Global};
 use std::cmp::Ordering;
@@ -18,7 +18,7 @@ pub fn put_then_get<O: Ordered>(
     value: &[u8],
     out: &mut Vec<u8>,
 ) -> Result<bool, Refusal>
-    requires { length value.now ≤ 1024 }
+    requires { length value.now ≤ LONGEST_VALUE }
     ensures ok { IfOk result (λ found. Follows (O.stands store.old) (O.stands store.new)
         (PutsThenGets (O.lane store.old) (O.sole store.old) key.now value.now (got found out.new.items))) }
     ensures value { IfOk result (λ found. IsTrue (O.sole store.old) → (seen : List Entry)
