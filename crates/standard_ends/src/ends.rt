@@ -6,16 +6,13 @@ ghost use Rattle.std.specs.Io.{ReadsAtMost};
 ghost use Rattle.std.specs.Io.KnownBytes.{ReadConsumes};
 ghost use Rattle.outside.specs.Causes.{FaultsCounted};
 
-use crate::outgoing::Outgoing;
+use crate::outgoing::{BUFFER, Outgoing};
 use counts::raise;
 use outside::{Sink, Source, Stop};
 use std::alloc::Global;
 use std::cell::RefCell;
 use std::io;
 use std::io::{BufReader, Read, Write};
-
-/// How many bytes are read at once.
-const AHEAD: usize = 65_536;
 
 /// A source over a reader, which is read ahead. Before the reader is asked, the bytes are handed on that wait for the
 /// writer, so that whoever answers them can. Each error of the reader is a fault; a failing writer is told by the
@@ -40,7 +37,7 @@ impl<'a, R: Read + Drop, W> StdSource<'a, R, W> {
         ensures left { IfOk result (λ s. source_left R.remaining s ≡ R.remaining reader) }
     {
         Ok(StdSource {
-            reader: BufReader::with_capacity(alloc, AHEAD, reader)?,
+            reader: BufReader::with_capacity(alloc, BUFFER, reader)?,
             outgoing,
             faults: 0,
         })
@@ -100,13 +97,13 @@ impl<W: Write> Sink for StdSink<'_, W> {
     ghost faults = { λ s. sink_faults s };
 
     fn write(&mut self, bytes: &[u8]) -> Result<usize, Stop> {
-        let answer = match self.outgoing.try_borrow_mut() {
-            Ok(mut outgoing) => outgoing.write(bytes),
-            Err(_) => Err(Stop::Failed),
-        };
-        if answer == Err(Stop::Failed) {
-            self.faults = raise(self.faults);
+        // What a cell holds is in no contract: that the bytes are collected is the promise of `put` alone.
+        match self.outgoing.try_borrow_mut() {
+            Ok(mut outgoing) => outgoing.put(bytes, &mut self.faults),
+            Err(_) => {
+                self.faults = raise(self.faults);
+                Err(Stop::Failed)
+            }
         }
-        answer
     }
 }

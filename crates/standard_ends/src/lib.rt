@@ -8,4 +8,4 @@ mod outgoing;
 mod tests;
 
 pub use ends::{StdSink, StdSource};
-pub use outgoing::Outgoing;
+pub use outgoing::{BUFFER, Outgoing};

@@ -4,14 +4,16 @@ ghost use Rattle.std.specs.Bool.{OnTrue, OnFalse};
 ghost use Rattle.std.specs.Io.{ReadsAtMost, WritesAtMost};
 ghost use Rattle.std.specs.Io.Buffered.{reader_buffer, reader_inner, reader_remaining};
 ghost use Rattle.std.specs.Io.KnownBytes.{Appends, Keeps, ReadConsumes, WriteAppends};
+ghost use Rattle.outside.specs.Causes.{FaultsCounted};
 
+use counts::raise;
 use outside::Stop;
 use std::alloc::Global;
 use std::io;
 use std::io::{BufRead, BufReader, ErrorKind, Read, Write};
 
-/// How many bytes are collected before they are handed on.
-const CAPACITY: usize = 65_536;
+/// How many bytes are collected before they are handed on, and how many are read at once.
+pub const BUFFER: usize = 65_536;
 
 /// Bytes on their way to a writer, in the order in which they were written. Once the writer has failed, it is
 /// given nothing more.
@@ -61,15 +63,33 @@ impl<W: Write> Outgoing<W> {
         }
     }
 
+    /// Collects as `write` does, and raises the count of faults where the writer has failed.
+    pub fn put(&mut self, bytes: &[u8], faults: &mut u64) -> Result<usize, Stop>
+        ensures bound { WritesAtMost result bytes.now }
+        ensures some { IfOk result (λ n. 0 < length bytes.now → 0 < n) }
+        ensures passed { WriteAppends (passed W.contents self.old) (passed W.contents self.new) result bytes.now }
+        ensures failed { (result ≡ Err Stop.Failed) ↔ IsTrue (is_broken self.new) }
+        ensures cause { FaultsCounted faults.old faults.new result }
+    {
+        match self.write(bytes) {
+            Ok(n) => Ok(n),
+            Err(Stop::NoMemory) => Err(Stop::NoMemory),
+            Err(Stop::Failed) => {
+                *faults = raise(*faults);
+                Err(Stop::Failed)
+            }
+        }
+    }
+
     /// Says whether there is room in the buffer, which is handed on where it is full.
     fn make_room(&mut self) -> bool
         ensures passed { Keeps (passed W.contents self.old) (passed W.contents self.new) }
-        ensures room { OnTrue result (used self.new < CAPACITY) }
+        ensures room { OnTrue result (used self.new < BUFFER) }
         ensures whole { OnTrue result (is_broken self.new ≡ false) }
         ensures broken { OnFalse result (IsTrue (is_broken self.new)) }
         ensures once { IsTrue (is_broken self.old) → self.new ≡ self.old }
     {
-        if self.bytes.len() < CAPACITY {
+        if self.bytes.len() < BUFFER {
             !self.broken
         } else {
             self.hand_on()
@@ -78,14 +98,14 @@ impl<W: Write> Outgoing<W> {
 
     /// Takes as many of the bytes as there is room for.
     fn collect(&mut self, bytes: &[u8]) -> Result<usize, Stop>
-        requires { used self.old < CAPACITY }
+        requires { used self.old < BUFFER }
         ensures bound { WritesAtMost result bytes.now }
         ensures some { IfOk result (λ n. 0 < length bytes.now → 0 < n) }
         ensures passed { WriteAppends (passed W.contents self.old) (passed W.contents self.new) result bytes.now }
         ensures never { result ≢ Err Stop.Failed }
         ensures kept { is_broken self.new ≡ is_broken self.old }
     {
-        let n = bytes.len().min(CAPACITY - self.bytes.len());
+        let n = bytes.len().min(BUFFER - self.bytes.len());
         match self.bytes.extend_from_slice(&bytes[..n]) {
             Ok(()) => Ok(n),
             Err(_) => Err(Stop::NoMemory),
@@ -132,17 +152,28 @@ impl<W: Write> Outgoing<W> {
         // What stands behind the buffer is asked for more only where nothing waits.
         ensures ahead { 0 < length (reader_buffer reader.old) → reader_inner reader.new ≡ reader_inner reader.old }
         ensures handed { length (reader_buffer reader.old) ≡ 0 → OnFalse (is_broken self.new) (waiting self.new ≡ []) }
+        ensures once { IsTrue (is_broken self.old) → self.new ≡ self.old }
     {
         let ahead = reader.buffer();
         if ahead.is_empty() {
             // A failure is told by the next write.
             self.hand_on();
-            return reader.read(buf);
+            return self.ask(reader, buf);
         }
         let n = ahead.len().min(buf.len());
         buf[..n].copy_from_slice(&ahead[..n]);
         reader.consume(n);
         Ok(n)
+    }
+
+    /// Asks the reader, which may wait for an answer to what was written: so nothing waits for the writer by then,
+    /// unless it failed.
+    fn ask<R: Read>(&self, reader: &mut BufReader<R>, buf: &mut [u8]) -> io::Result<usize>
+        requires { OnFalse (is_broken self.now) (waiting self.now ≡ []) }
+        ensures bound { ReadsAtMost result buf.new }
+        ensures bytes { ReadConsumes (reader_remaining R.remaining reader.old) (reader_remaining R.remaining reader.new) result buf.new }
+    {
+        reader.read(buf)
     }
 
     /// Hands on all that waits, and gives the writer back, unless it failed.

@@ -1,10 +1,10 @@
 //! Tests of what no clause says: which pieces reach a writer and when, and that only its errors are faults.
 use super::*;
 use outside::{Sink, Source, Stop};
+use std::alloc::Global;
 use std::cell::RefCell;
 use std::io;
 use std::io::{ErrorKind, Read, Write};
-use std::process::Abort;
 use std::test::Fail;
 
 // A writer that takes at most two bytes at a call, and errs at one call, by its number from 1.
@@ -54,16 +54,77 @@ impl Read for Threes {
     }
 }
 
-fn assert_taken(rt: &impl Abort, taken: &RefCell<Vec<u8>>, want: &[u8]) {
-    match taken.try_borrow() {
-        Ok(bytes) => assert_eq!(rt; bytes.as_slice(), want),
-        Err(_) => panic!(rt; "the bytes are in use"),
+// A reader that looks, while it is asked, at what the writer has taken by then: it gives a byte where that is what it
+// wants, and else errs.
+#[derive(Drop)]
+struct Looking<'a> {
+    taken: &'a RefCell<Vec<u8>>,
+    wants: &'a [u8],
+}
+
+impl Read for Looking<'_> {
+    fn read(&mut self, buf: &mut [u8]) -> io::Result<usize> {
+        if !has_taken(self.taken, self.wants) {
+            return Err(ErrorKind::Other.into());
+        }
+        let n = buf.len().min(1);
+        buf[..n].copy_from_slice(&b"x"[..n]);
+        Ok(n)
     }
 }
 
+fn has_taken(taken: &RefCell<Vec<u8>>, want: &[u8]) -> bool {
+    match taken.try_borrow() {
+        Ok(bytes) => bytes.as_slice() == want,
+        Err(_) => false,
+    }
+}
+
+// A writer that errs at one call, in one way, and what is to be seen then.
+#[derive(Clone, Copy)]
+struct Course<'a> {
+    errs: usize,
+    kind: ErrorKind,
+    // what was taken when the reader was asked
+    read: &'a [u8],
+    // what the write behind the read answers, and what was taken at the end
+    answer: Result<usize, Stop>,
+    end: &'a [u8],
+}
+
+// Whether a reader that is asked sees what was handed on, and a later write and the end tell of a failure.
+fn goes_as(alloc: Global, course: Course<'_>) -> bool {
+    let taken = RefCell::new(Vec::new(alloc));
+    let narrow = Narrow {
+        taken: &taken,
+        calls: 0,
+        errs: course.errs,
+        kind: course.kind,
+    };
+    let outgoing = RefCell::new(Outgoing::new(alloc, narrow));
+    let looking = Looking {
+        taken: &taken,
+        wants: course.read,
+    };
+    let mut sink = StdSink::new(&outgoing);
+    let Ok(mut source) = StdSource::new(alloc, looking, &outgoing) else {
+        return false;
+    };
+    let mut buf = [0; 4];
+    let collected = sink.write(b"abcde") == Ok(5) && has_taken(&taken, b"");
+    let read = source.read(&mut buf) == Ok(1);
+    drop(source);
+    let written = sink.write(b"fg") == course.answer;
+    let whole = outgoing.into_inner().finish().is_some();
+    collected
+        && read
+        && written
+        && whole == (course.end.len() == 7)
+        && has_taken(&taken, course.end)
+}
+
 #[test]
-fn what_waits_is_handed_on_before_a_read(rt: HostRuntime) -> Result<(), Fail> {
-    // (the call that errs, how, what was taken at the read, the next write's answer, what was taken at the end)
+fn what_waits_is_handed_on_before_a_reader_is_asked(rt: HostRuntime) {
     for (errs, kind, read, answer, end) in [
         (
             0,
@@ -76,43 +137,34 @@ fn what_waits_is_handed_on_before_a_read(rt: HostRuntime) -> Result<(), Fail> {
         (2, ErrorKind::Other, b"ab", Err(Stop::Failed), b"ab"),
         (4, ErrorKind::Other, b"abcde", Ok(2), b"abcde"),
     ] {
-        let taken = RefCell::new(Vec::new(rt.alloc()));
-        let narrow = Narrow {
-            taken: &taken,
-            calls: 0,
+        let course = Course {
             errs,
             kind,
+            read,
+            answer,
+            end,
         };
-        let outgoing = RefCell::new(Outgoing::new(rt.alloc(), narrow));
-        let mut sink = StdSink::new(&outgoing);
-        let mut source = StdSource::new(rt.alloc(), b"x".as_slice(), &outgoing)?;
-        let mut buf = [0; 4];
-        assert_eq!(rt; sink.write(b"abcde"), Ok(5));
-        assert_taken(&rt, &taken, b"");
-        assert_eq!(rt; source.read(&mut buf), Ok(1));
-        drop(source);
-        assert_taken(&rt, &taken, read);
-        assert_eq!(rt; sink.write(b"fg"), answer);
-        assert_eq!(rt; outgoing.into_inner().finish().is_some(), end.len() == 7);
-        assert_taken(&rt, &taken, end);
+        assert!(rt; goes_as(rt.alloc(), course));
     }
-    Ok(())
 }
 
-#[test]
-fn a_reader_is_asked_once_its_bytes_are_given(rt: HostRuntime) -> Result<(), Fail> {
-    let taken = RefCell::new(Vec::new(rt.alloc()));
+// Whether what was read ahead is given before the reader is asked again, behind a write of one byte each time.
+fn asks_once_its_bytes_are_given(alloc: Global) -> bool {
+    let taken = RefCell::new(Vec::new(alloc));
     let narrow = Narrow {
         taken: &taken,
         calls: 0,
         errs: 0,
         kind: ErrorKind::Other,
     };
-    let outgoing = RefCell::new(Outgoing::new(rt.alloc(), narrow));
+    let outgoing = RefCell::new(Outgoing::new(alloc, narrow));
     let mut sink = StdSink::new(&outgoing);
     let threes = Threes { calls: 0, errs: 2 };
-    let mut source = StdSource::new(rt.alloc(), threes, &outgoing)?;
-    // (the read's answer, what it gave, what was taken at it), each behind a write of one byte
+    let Ok(mut source) = StdSource::new(alloc, threes, &outgoing) else {
+        return false;
+    };
+    let mut good = true;
+    // (the read's answer, what it gave, what was taken at it)
     for (answer, gave, at) in [
         (Ok(2), b"ab".as_slice(), b"x".as_slice()),
         (Ok(1), b"c", b"x"),
@@ -121,29 +173,36 @@ fn a_reader_is_asked_once_its_bytes_are_given(rt: HostRuntime) -> Result<(), Fai
         (Ok(1), b"c", b"xxxx"),
     ] {
         let mut buf = [0; 2];
-        assert_eq!(rt; sink.write(b"x"), Ok(1));
-        assert_eq!(rt; source.read(&mut buf), answer);
-        assert!(rt; buf.starts_with(gave));
-        assert_taken(&rt, &taken, at);
+        let written = sink.write(b"x") == Ok(1);
+        let read = source.read(&mut buf) == answer && buf.starts_with(gave);
+        good = good && written && read && has_taken(&taken, at);
     }
-    Ok(())
+    good
+}
+
+#[test]
+fn a_reader_is_asked_once_its_bytes_are_given(rt: HostRuntime) {
+    assert!(rt; asks_once_its_bytes_are_given(rt.alloc()));
+}
+
+// Whether a sink collects as many bytes as its buffer has room for, and its writer gets all that it took.
+fn collects_and_hands_on(alloc: Global, bytes: &[u8]) -> bool {
+    let outgoing = RefCell::new(Outgoing::new(alloc, Vec::new(alloc)));
+    let mut sink = StdSink::new(&outgoing);
+    let most = sink.write(bytes) == Ok(65_535);
+    let last = sink.write(b"ab") == Ok(1);
+    let next = sink.write(b"b") == Ok(1);
+    let none = sink.write(b"") == Ok(0);
+    let all = match outgoing.into_inner().finish() {
+        Some(all) => all.len() == 65_537 && all.starts_with(bytes) && all.ends_with(b"ab"),
+        None => false,
+    };
+    most && last && next && none && all
 }
 
 #[test]
 fn a_full_buffer_is_handed_on(rt: HostRuntime) -> Result<(), Fail> {
-    let outgoing = RefCell::new(Outgoing::new(rt.alloc(), Vec::new(rt.alloc())));
-    let mut sink = StdSink::new(&outgoing);
     let bytes = vec![in rt.alloc(); 7; 65_535]?;
-    for (write, answer) in [
-        (bytes.as_slice(), Ok(65_535)),
-        (b"ab", Ok(1)),
-        (b"b", Ok(1)),
-        (b"", Ok(0)),
-    ] {
-        assert_eq!(rt; sink.write(write), answer);
-    }
-    let all = outgoing.into_inner().finish().ok_or("the writer failed")?;
-    assert_eq!(rt; all.len(), 65_537);
-    assert!(rt; all.starts_with(&bytes) && all.ends_with(b"ab"));
+    assert!(rt; collects_and_hands_on(rt.alloc(), &bytes));
     Ok(())
 }
