@@ -3,8 +3,8 @@
 write byte for byte. It prints a table of medians, spreads and ratios. `run.py [ROUNDS]`, at least 5 rounds, and ten times
 as many of a script that is over in a moment.
 
-The peer is built by `rustc -O`. The environment's WORM names another binary of the program than the one that
-`./worm` builds."""
+The peer is built by `rustc` with what it has to make it fast. The environment's WORM names another binary of the
+program than the one that `./worm` builds, and PEER another one of the peer, as one that was built of an older source."""
 
 import filecmp
 import os
@@ -22,6 +22,9 @@ TOP = os.path.dirname(HERE)
 BUILD = os.path.join(HERE, "build")
 LEAST_ROUNDS = 5
 
+# The most that the compiler does for a program of one crate.
+FAST = ["-C", "opt-level=3", "-C", "lto=fat", "-C", "codegen-units=1", "-C", "panic=abort"]
+
 # A run of less than so many seconds strays more, and is made so many times as often.
 SHORT = 0.05
 SHORT_ROUNDS = 10
@@ -33,11 +36,14 @@ def end(text):
 
 
 def build_peer():
+    named = os.environ.get("PEER")
+    if named:
+        return [named]
     if shutil.which("rustc") is None:
         end("there is no rustc here, so there is no peer to be measured beside")
     peer = os.path.join(BUILD, "peer")
     source = os.path.join(HERE, "peer.rs")
-    if subprocess.run(["rustc", "--edition", "2024", "-O", "-o", peer, source]).returncode != 0:
+    if subprocess.run(["rustc", "--edition", "2024", *FAST, "-o", peer, source]).returncode != 0:
         end("rustc didn't build the peer")
     return [peer]
 

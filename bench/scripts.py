@@ -12,17 +12,28 @@ MANY_KEYS = 262_143
 LINES = 1_000_000
 SCANS = 2_000
 
+# The items of `worm fill`, and ten times as many.
+ITEMS = 10_000
+MANY_ITEMS = 100_000
+
 # Shapes with room for all keys of a script. The words of the narrow one take 1.3 MB, those of the standard one 18 MB.
 NARROW = ["--leaves", "512", "--items", "16384", "--heads", "8192"]
 WIDE = ["--values", "131072"]
+WIDER = ["--values", "131072", "--leaves", "8192", "--items", "524288"]
 WIDEST = ["--values", "262144", "--leaves", "16384", "--items", "1048576"]
+
+
+def wide_numbers(start):
+    """The generator's numbers of 64 bits."""
+    x = start
+    while True:
+        x = (x * 6364136223846793005 + 1442695040888963407) % 2**64
+        yield x
 
 
 def numbers(start):
     """Numbers below 2^32, from the upper halves of the generator's 64 bits."""
-    x = start
-    while True:
-        x = (x * 6364136223846793005 + 1442695040888963407) % 2**64
+    for x in wide_numbers(start):
         yield x >> 32
 
 
@@ -89,6 +100,40 @@ def puts(keys):
             yield f"GET {address(number % keys)}"
 
 
+def fill_key(i):
+    """The key of an item of `worm fill`, 33 bytes."""
+    return f"http://host{i % 50:02}.example/item/{i:06}"
+
+
+def mixed(items, key):
+    """The lines that `worm fill 1 1000000` serves, over so many items: of sixteen eight put, five get, two delete, and
+    one scans 20 pairs."""
+    draw = wide_numbers(START)
+    for i in range(LINES):
+        x = next(draw)
+        kind, name = x >> 60, key((x >> 32) % items)
+        if kind < 8:
+            yield f"PUT {name} {i}"
+        elif kind < 13:
+            yield f"GET {name}"
+        elif kind < 15:
+            yield f"DEL {name}"
+        else:
+            yield f"SCAN {name} * 20"
+
+
+def churn():
+    """65,536 of 131,072 web addresses are put, and then a million lines put or delete one of all, either as often, so
+    that about as many stay."""
+    draw = numbers(START)
+    for i in range(KEYS):
+        yield f"PUT {address(2 * (i * 40_507 % KEYS))} value-{i:018}"
+    for i in range(LINES):
+        number = next(draw)
+        name = address((number >> 8) % (2 * KEYS))
+        yield f"PUT {name} value-{i:018}" if number >> 31 else f"DEL {name}"
+
+
 # What makes the lines of each script, and the options of `worm run` for it.
 SCRIPTS = {
     "web_addresses": (web_addresses, []),
@@ -99,6 +144,9 @@ SCRIPTS = {
     "puts": (lambda: puts(KEYS), WIDE),
     "many_gets": (lambda: gets(MANY_KEYS), WIDEST),
     "many_puts": (lambda: puts(MANY_KEYS), WIDEST),
+    "mixed": (lambda: mixed(ITEMS, fill_key), []),
+    "mixed_many": (lambda: mixed(MANY_ITEMS, address), WIDER),
+    "churn": (churn, WIDE),
 }
 
 
