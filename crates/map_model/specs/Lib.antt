@@ -1,6 +1,7 @@
 pub mod Calls
 pub mod Halves
 pub mod History
+pub mod Lanes
 pub mod Maps
 pub mod Ordered
 pub mod Pages

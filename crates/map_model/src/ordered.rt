@@ -36,6 +36,9 @@ pub trait Ordered {
     /// The last such refusal.
     ghost last: { Self → Option Refusal };
 
+    /// How many further lanes it can fork, which calls leave as it is. A store of one lane forks none.
+    ghost room: { Self → ℕ } = { λ _. 0 };
+
     /// Whether a history may be the one that it has seen.
     ghost stands: { Self → List Entry → Type 0 };
 
@@ -55,6 +58,7 @@ pub trait Ordered {
         ensures cleared { OnErr result (out.new.items ≡ []) }
         ensures kept { (lane self.new ≡ lane self.old) × (sole self.new ≡ sole self.old)
             × (origin self.new ≡ origin self.old) }
+        ensures forks { room self.new ≡ room self.old }
         ensures fits { (history : List Entry) → fits self.old history → fits self.new history }
         ensures counted { HasCause refusals last caused self.old self.new (refusal_of result) }
         ensures alone { IsTrue (sole self.old) → NotAgain result }
@@ -69,6 +73,7 @@ pub trait Ordered {
             (Stays (lane self.old) (sole self.old))) }
         ensures kept { (lane self.new ≡ lane self.old) × (sole self.new ≡ sole self.old)
             × (origin self.new ≡ origin self.old) }
+        ensures forks { room self.new ≡ room self.old }
         ensures fits { (history : List Entry) → fits self.old history → fits self.new history }
         ensures counted { HasCause refusals last caused self.old self.new (refusal_of result) }
         ensures alone { IsTrue (sole self.old) → NotAgain result }
@@ -85,6 +90,7 @@ pub trait Ordered {
             (Stays (lane self.old) (sole self.old))) }
         ensures kept { (lane self.new ≡ lane self.old) × (sole self.new ≡ sole self.old)
             × (origin self.new ≡ origin self.old) }
+        ensures forks { room self.new ≡ room self.old }
         ensures fits { (history : List Entry) → fits self.old history → fits self.new history }
         ensures counted { HasCause refusals last caused self.old self.new (refusal_of result) }
         ensures alone { IsTrue (sole self.old) → NotAgain result }
@@ -104,6 +110,7 @@ pub trait Ordered {
         ensures cleared { OnErr result (page.new.pairs ≡ []) }
         ensures kept { (lane self.new ≡ lane self.old) × (sole self.new ≡ sole self.old)
             × (origin self.new ≡ origin self.old) }
+        ensures forks { room self.new ≡ room self.old }
         ensures fits { (history : List Entry) → fits self.old history → fits self.new history }
         ensures counted { HasCause refusals last caused self.old self.new (refusal_of result) }
         ensures alone { IsTrue (sole self.old) → NotAgain result }
@@ -114,6 +121,7 @@ pub trait Ordered {
         ensures seen { Follows (stands self.old) (stands self.new) (λ old new. new ≡ old) }
         ensures kept { (lane self.new ≡ lane self.old) × (sole self.new ≡ sole self.old)
             × (origin self.new ≡ origin self.old) }
+        ensures forks { room self.new ≡ room self.old }
         ensures fits { (history : List Entry) → fits self.old history → fits self.new history }
         ensures counted { (refusals self.new ≡ refusals self.old) × (last self.new ≡ last self.old) };
 
@@ -122,6 +130,7 @@ pub trait Ordered {
         ensures seen { Follows (stands self.old) (stands self.new) (λ old new. new ≡ old) }
         ensures kept { (lane self.new ≡ lane self.old) × (sole self.new ≡ sole self.old)
             × (origin self.new ≡ origin self.old) }
+        ensures forks { room self.new ≡ room self.old }
         ensures fits { (history : List Entry) → fits self.old history → fits self.new history }
         ensures counted { (refusals self.new ≡ refusals self.old) × (last self.new ≡ last self.old) };
 
