@@ -2,6 +2,7 @@
 use Rattle.std.specs.Prelude.{◌≡◌, ℕ, Bool, nat_lt, List, [], ◌∷◌, length, take, map, Option, Some, None, if◌then◌else◌}
 use Rattle.line_reader.specs.Cut.{ended_lines, last_line}
 use Rattle.line_reader.specs.Held.{Held}
+use Rattle.line_reader.specs.declared.limits.TheConstants.{LINE_ROOM, MAX_LINE}
 use Rattle.line_reader.specs.declared.lines.Event.{Event}
 use Rattle.line_reader.specs.declared.lines.Event.TheVariants.{Line, TooLong}
 
@@ -10,9 +11,9 @@ pub data Told : Type 0 where
   Read : (line : List ℕ) → Told
   Long : Told
 
--- a line of more than 4,096 bytes is too long
+-- a line of more than `MAX_LINE` bytes is too long
 abbrev pub tells : List ℕ → Told
-tells line = if nat_lt 4096 (length line) then Long else Read line
+tells line = if nat_lt MAX_LINE (length line) then Long else Read line
 
 -- what an event tells, where the buffer has this line
 abbrev pub told : Option Event → List ℕ → List Told
@@ -30,8 +31,8 @@ last_told part = map tells (last_line part)
 
 -- a buffer has the front of a line: as much of this part as it has room for, and whether there is more
 pub record IsFront (line : List ℕ) (over : Bool) (part : List ℕ) : Type 0 where
-  pub kept : line ≡ take 4097 part
-  pub more : over ≡ nat_lt 4097 (length part)
+  pub kept : line ≡ take LINE_ROOM part
+  pub more : over ≡ nat_lt LINE_ROOM (length part)
 
 -- the reader is in the middle of a line, of which it took this part
 abbrev pub Holds : Held → List ℕ → Type 0

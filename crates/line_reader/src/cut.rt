@@ -1,9 +1,9 @@
-//! The steps on a line's buffer, which has the front of a line: its first 4,097 bytes.
+//! The steps on a line's buffer, which has the front of a line: its first `LINE_ROOM` bytes.
 ghost use Rattle.std.specs.Prelude.{◌≡◌, ◌≤◌, ◌∷◌, ◌++◌, ℕ, List, [], Some, if◌then◌else◌, vec_len, vec_capacity};
 ghost use Rattle.line_reader.specs.Cut.{without_cr};
 ghost use Rattle.line_reader.specs.Told.{IsFront, tells, told};
 
-use crate::Event;
+use crate::{Event, LINE_ROOM, MAX_LINE};
 
 /// Begins a new line behind one that was ended.
 pub(crate) fn begin(line: &mut Vec<u8>, ended: bool)
@@ -18,14 +18,14 @@ pub(crate) fn begin(line: &mut Vec<u8>, ended: bool)
 
 /// Adds bytes to a line, as far as the buffer has room. Whether the line has more.
 pub(crate) fn keep(line: &mut Vec<u8>, over: bool, bytes: &[u8]) -> bool
-    requires reserved { 4097 ≤ vec_capacity line.old }
-    requires short { vec_len line.old ≤ 4097 }
+    requires reserved { LINE_ROOM ≤ vec_capacity line.old }
+    requires short { vec_len line.old ≤ LINE_ROOM }
     ensures front { (part : List ℕ) → IsFront line.old.items over part →
         IsFront line.new.items result (part ++ bytes.now) }
-    ensures reserved { 4097 ≤ vec_capacity line.new }
-    ensures short { vec_len line.new ≤ 4097 }
+    ensures reserved { LINE_ROOM ≤ vec_capacity line.new }
+    ensures short { vec_len line.new ≤ LINE_ROOM }
 {
-    let room = 4097 - line.len();
+    let room = LINE_ROOM - line.len();
     let kept = bytes.len().min(room);
     match line.extend_from_slice(&bytes[..kept]) {
         Ok(()) => over || room < bytes.len(),
@@ -35,18 +35,18 @@ pub(crate) fn keep(line: &mut Vec<u8>, over: bool, bytes: &[u8]) -> bool
 
 /// Ends a line, and tells of it.
 pub(crate) fn end(line: &mut Vec<u8>, over: bool) -> Event
-    requires short { vec_len line.old ≤ 4097 }
+    requires short { vec_len line.old ≤ LINE_ROOM }
     ensures told { (part : List ℕ) → IsFront line.old.items over part →
         told (Some result) line.new.items ≡ tells (without_cr part) ∷ [] }
-    ensures short { vec_len line.new ≤ 4097 }
+    ensures short { vec_len line.new ≤ LINE_ROOM }
     ensures reserved { vec_capacity line.new ≡ vec_capacity line.old }
 {
-    // More than 4,097 bytes are too many whatever the last one is; 4,097 are not if it is a CR.
+    // More than `LINE_ROOM` bytes are too many whatever the last one is; so many are not if it is a CR.
     if over {
         return Event::TooLong;
     }
     drop_cr(line);
-    if line.len() > 4096 {
+    if line.len() > MAX_LINE {
         Event::TooLong
     } else {
         Event::Line

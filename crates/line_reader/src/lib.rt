@@ -5,10 +5,12 @@
 #![tactic(auto)]
 
 mod cut;
+mod limits;
 mod lines;
 mod pieces;
 #[cfg(test)]
 mod tests;
 
+pub use limits::{LINE_ROOM, MAX_LINE};
 pub use lines::{Event, Lines, Taken, Whole};
 pub use pieces::read_all;

@@ -5,6 +5,7 @@ ghost use Rattle.line_reader.specs.Told.{Holds, told, told_lines, last_told};
 ghost use Rattle.line_reader.specs.Told.Told.{Read};
 
 use crate::cut::{before_cr, begin, end, keep};
+use crate::{LINE_ROOM, MAX_LINE};
 use memchr::memchr;
 use std::alloc::{AllocError, Global};
 use std::marker::Model;
@@ -12,9 +13,9 @@ use std::marker::Model;
 /// What is told of a line that ended.
 #[derive(Clone, Copy, Debug, PartialEq)]
 pub enum Event {
-    /// It has at most 4,096 bytes, and `Lines::line` has them.
+    /// It has at most `MAX_LINE` bytes, and `Lines::line` has them.
     Line,
-    /// It has more than 4,096 bytes, of which no more is known.
+    /// It has more than `MAX_LINE` bytes, of which no more is known.
     TooLong,
 }
 
@@ -35,7 +36,7 @@ pub struct Whole<'a> {
 /// A reader of lines: the front of the line that isn't ended, or the last line that was told.
 ///
 /// A line ends in LF, or at the end of input where a byte is left. One CR at its end is dropped. Its
-/// 4,096 bytes are counted after that, so the buffer has one byte more.
+/// `MAX_LINE` bytes are counted after that, so the buffer has one byte more.
 #[derive(Drop)]
 pub struct Lines {
     line: Vec<u8>,
@@ -45,22 +46,23 @@ pub struct Lines {
 
 impl Model for Lines {
     ghost use Rattle.line_reader.specs.Held.{Held};
+    ghost use Rattle.line_reader.specs.declared.limits.TheConstants.{LINE_ROOM};
     ghost use Rattle.std.specs.Prelude.{◌≤◌, [], vec_len, vec_capacity, if◌then◌else◌};
 
     ghost Value = { Held };
 
     ghost view = { λ l. record { kept = (if l.ended then [] else l.line.items); over = l.over; line = l.line.items } };
 
-    ghost invariant = { λ l. (vec_len l.line ≤ 4097) × (4097 ≤ vec_capacity l.line) };
+    ghost invariant = { λ l. (vec_len l.line ≤ LINE_ROOM) × (LINE_ROOM ≤ vec_capacity l.line) };
 }
 
 impl Lines {
-    /// Reserves the buffer of 4,097 bytes, the only memory that a reader ever takes.
+    /// Reserves the buffer of `LINE_ROOM` bytes, the only memory that a reader ever takes.
     pub fn new(alloc: Global) -> Result<Lines, AllocError>
         ensures { IfOk result (λ lines. Holds lines []) }
     {
         Ok(Lines {
-            line: Vec::with_capacity(alloc, 4097)?,
+            line: Vec::with_capacity(alloc, LINE_ROOM)?,
             over: false,
             ended: false,
         })
@@ -82,15 +84,15 @@ impl Lines {
 
     /// The line that a piece begins with, lent from the piece: nothing is copied, and `line` doesn't have it. There is
     /// none where the reader holds the front of a line, where no LF is in the piece, or where the line has more than
-    /// 4,096 bytes: then `take` serves.
+    /// `MAX_LINE` bytes: then `take` serves.
     pub fn whole<'a>(&self, piece: &'a [u8]) -> Option<Whole<'a>>
         ensures used { IfSome result (λ whole. (0 < whole.used) × (whole.used ≤ length piece.now)) }
         ensures told { (part : List ℕ) → Holds self.now part →
             IfSome result (λ whole. told_lines part (take whole.used piece.now) ≡ Read whole.line.now ∷ []) }
-        ensures short { IfSome result (λ whole. length whole.line.now ≤ 4096) }
+        ensures short { IfSome result (λ whole. length whole.line.now ≤ MAX_LINE) }
         ensures held { (part : List ℕ) → Holds self.now part →
             IfSome result (λ whole. Holds self.now (open_part part (take whole.used piece.now))) }
-        ensures none { Holds self.now [] → IfNone result (HasNoLf (take 4097 piece.now)) }
+        ensures none { Holds self.now [] → IfNone result (HasNoLf (take LINE_ROOM piece.now)) }
     {
         if self.is_within() {
             return None;
@@ -99,7 +101,7 @@ impl Lines {
             None => None,
             Some(at) => {
                 let line = before_cr(&piece[..at]);
-                if line.len() > 4096 {
+                if line.len() > MAX_LINE {
                     return None;
                 }
                 Some(Whole { line, used: at + 1 })

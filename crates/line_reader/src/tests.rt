@@ -1,7 +1,7 @@
 //! Worked lines, whose expected values were written by hand.
 ghost use Rattle.std.specs.Prelude.{◌<◌};
 
-use crate::{Lines, read_all};
+use crate::{LINE_ROOM, Lines, MAX_LINE, read_all};
 use std::alloc::{AllocError, Global};
 use std::test::Fail;
 
@@ -33,8 +33,21 @@ fn told(alloc: Global, bytes: &[u8], size: usize) -> Result<Vec<u8>, AllocError>
     Ok(out)
 }
 
+/// Whether these are the lines of the bytes, however they are cut.
+fn tells(alloc: Global, bytes: &[u8], want: &[u8]) -> bool {
+    let mut good = true;
+    for size in [1, 2, 3, 4096] {
+        good = good
+            && match told(alloc, bytes, size) {
+                Ok(lines) => lines.as_slice() == want,
+                Err(_) => false,
+            };
+    }
+    good
+}
+
 #[test]
-fn ends_of_lines(rt: HostRuntime) -> Result<(), Fail> {
+fn ends_of_lines(rt: HostRuntime) {
     let rows = [
         (b"".as_slice(), b"".as_slice()),
         (b"a\nb\n", b"a|b|"),
@@ -45,38 +58,53 @@ fn ends_of_lines(rt: HostRuntime) -> Result<(), Fail> {
         (b"\r\n\r", b"||"),
     ];
     for (bytes, want) in rows {
-        for size in [1, 2, 3, 4096] {
-            let lines = told(rt.alloc(), bytes, size)?;
-            assert_eq!(rt; lines.as_slice(), want, "{bytes:?} in pieces of {size}");
-        }
+        assert!(rt; tells(rt.alloc(), bytes, want), "{bytes:?}");
     }
-    Ok(())
+}
+
+/// How many bytes the one line has that so many bytes and an end make: 0 where it is too long.
+fn length_told(
+    alloc: Global,
+    count: usize,
+    end: &[u8],
+    size: usize,
+) -> Result<Option<usize>, AllocError>
+    requires { 0 < size }
+{
+    let mut bytes = vec![in alloc; b'x'; count]?;
+    bytes.extend_from_slice(end)?;
+    let pieces = pieces(alloc, &bytes, size)?;
+    let lines = read_all(alloc, &pieces)?;
+    match lines.as_slice() {
+        [line] => Ok(Some(line.as_ref().map_or(0, |line| line.len()))),
+        _ => Ok(None),
+    }
+}
+
+/// Whether one line of this length is told, or that it is too long where that is 0, however the bytes are cut.
+fn tells_length(alloc: Global, count: usize, end: &[u8], want: usize) -> bool {
+    let mut good = true;
+    for size in [1, 2, 3, 4096] {
+        good = good && length_told(alloc, count, end, size) == Ok(Some(want));
+    }
+    good
 }
 
 #[test]
-fn long_lines(rt: HostRuntime) -> Result<(), Fail> {
-    // How many bytes stand before the end, the end, and what is told: the length, or 0 for too long.
+fn long_lines(rt: HostRuntime) {
+    // How many bytes stand before the end, the end, and what is told.
     let rows = [
-        (4096, b"\n".as_slice(), 4096),
-        (4096, b"\r\n", 4096),
-        (4096, b"\r", 4096),
-        (4096, b"\r\r\n", 0),
-        (4097, b"\n", 0),
-        (4097, b"", 0),
+        (MAX_LINE, b"\n".as_slice(), MAX_LINE),
+        (MAX_LINE, b"\r\n", MAX_LINE),
+        (MAX_LINE, b"\r", MAX_LINE),
+        (MAX_LINE, b"\r\r\n", 0),
+        (LINE_ROOM, b"\n", 0),
+        (LINE_ROOM, b"", 0),
         (9000, b"\r\n", 0),
     ];
     for (count, end, want) in rows {
-        for size in [1, 2, 3, 4096] {
-            let mut bytes = vec![in rt.alloc(); b'x'; count]?;
-            bytes.extend_from_slice(end)?;
-            let pieces = pieces(rt.alloc(), &bytes, size)?;
-            let lines = read_all(rt.alloc(), &pieces)?;
-            assert_eq!(rt; lines.len(), 1, "{count} bytes in pieces of {size}");
-            let told = lines[0].as_ref().map_or(0, |line| line.len());
-            assert_eq!(rt; told, want, "{count} bytes in pieces of {size}");
-        }
+        assert!(rt; tells_length(rt.alloc(), count, end, want), "{count} bytes");
     }
-    Ok(())
 }
 
 /// Whether the piece begins with this line, and takes so many bytes with its end.
