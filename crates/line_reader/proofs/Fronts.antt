@@ -2,7 +2,7 @@
 use Rattle.std.proofs.Common.{◌≡◌, ℕ, zero, suc, ◌+◌, ◌-◌, ◌<◌, ◌≤◌, min, Bool, true, false, ltb, eqb, ◌||◌, ◌⊎◌, List, [], ◌∷◌, ◌++◌, length, take, get_or, refl, sym, ap, ◌∙◌, arith, inl, inr, ⊎_elim}
 use Rattle.std.proofs.lemmas.List.{take_all, length-take, length-append}
 use Rattle.std.proofs.lemmas.Bool.{cond_both, cond-true, lt-ltb, le-ltb, ltb-true, ltb-false, cases_lt}
-use Rattle.line_reader.specs.declared.limits.TheConstants.{LINE_ROOM, MAX_LINE}
+use Rattle.line_reader.specs.declared.limits.TheConstants.{LINE_ROOM, LONGEST_LINE}
 use Rattle.line_reader.specs.Cut.{without_cr}
 use Rattle.line_reader.specs.Told.{IsFront, tells}
 use Rattle.line_reader.specs.Told.Told.{Read, Long}
@@ -67,7 +67,7 @@ without_cr-length line =
 pub tells_over : (line part : List ℕ) → IsFront line true part → tells (without_cr part) ≡ Long
 tells_over line part front =
     let long = ltb-true LINE_ROOM (length part) (sym front.more) in
-    cond-true _ Long (Read (without_cr part)) (lt-ltb MAX_LINE (length (without_cr part)) (omega (arith, length-without_cr part)))
+    cond-true _ Long (Read (without_cr part)) (lt-ltb LONGEST_LINE (length (without_cr part)) (omega (arith, length-without_cr part)))
 
 -- else the buffer has it all
 pub front_all : (line part : List ℕ) → IsFront line false part → line ≡ part

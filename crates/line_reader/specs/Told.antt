@@ -2,7 +2,7 @@
 use Rattle.std.specs.Prelude.{◌≡◌, ℕ, Bool, nat_lt, List, [], ◌∷◌, length, take, map, Option, Some, None, if◌then◌else◌}
 use Rattle.line_reader.specs.Cut.{ended_lines, last_line}
 use Rattle.line_reader.specs.Held.{Held}
-use Rattle.line_reader.specs.declared.limits.TheConstants.{LINE_ROOM, MAX_LINE}
+use Rattle.line_reader.specs.declared.limits.TheConstants.{LINE_ROOM, LONGEST_LINE}
 use Rattle.line_reader.specs.declared.lines.Event.{Event}
 use Rattle.line_reader.specs.declared.lines.Event.TheVariants.{Line, TooLong}
 
@@ -11,9 +11,9 @@ pub data Told : Type 0 where
   Read : (line : List ℕ) → Told
   Long : Told
 
--- a line of more than `MAX_LINE` bytes is too long
+-- a line of more than `LONGEST_LINE` bytes is too long
 abbrev pub tells : List ℕ → Told
-tells line = if nat_lt MAX_LINE (length line) then Long else Read line
+tells line = if nat_lt LONGEST_LINE (length line) then Long else Read line
 
 -- what an event tells, where the buffer has this line
 abbrev pub told : Option Event → List ℕ → List Told

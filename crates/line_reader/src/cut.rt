@@ -3,7 +3,7 @@ ghost use Rattle.std.specs.Prelude.{◌≡◌, ◌≤◌, ◌∷◌, ◌++◌, �
 ghost use Rattle.line_reader.specs.Cut.{without_cr};
 ghost use Rattle.line_reader.specs.Told.{IsFront, tells, told};
 
-use crate::{Event, LINE_ROOM, MAX_LINE};
+use crate::{Event, LINE_ROOM, LONGEST_LINE};
 
 /// Begins a new line behind one that was ended.
 pub(crate) fn begin(line: &mut Vec<u8>, ended: bool)
@@ -46,7 +46,7 @@ pub(crate) fn end(line: &mut Vec<u8>, over: bool) -> Event
         return Event::TooLong;
     }
     drop_cr(line);
-    if line.len() > MAX_LINE {
+    if line.len() > LONGEST_LINE {
         Event::TooLong
     } else {
         Event::Line

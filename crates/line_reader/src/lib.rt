@@ -11,6 +11,6 @@ mod pieces;
 #[cfg(test)]
 mod tests;
 
-pub use limits::{LINE_ROOM, MAX_LINE};
+pub use limits::{LINE_ROOM, LONGEST_LINE, MOST_INPUT};
 pub use lines::{Event, Lines, Taken, Whole};
 pub use pieces::read_all;

@@ -5,7 +5,7 @@ ghost use Rattle.line_reader.specs.Told.{Holds, told, told_lines, last_told};
 ghost use Rattle.line_reader.specs.Told.Told.{Read};
 
 use crate::cut::{before_cr, begin, end, keep};
-use crate::{LINE_ROOM, MAX_LINE};
+use crate::{LINE_ROOM, LONGEST_LINE};
 use memchr::memchr;
 use std::alloc::{AllocError, Global};
 use std::marker::Model;
@@ -13,9 +13,9 @@ use std::marker::Model;
 /// What is told of a line that ended.
 #[derive(Clone, Copy, Debug, PartialEq)]
 pub enum Event {
-    /// It has at most `MAX_LINE` bytes, and `Lines::line` has them.
+    /// It has at most `LONGEST_LINE` bytes, and `Lines::line` has them.
     Line,
-    /// It has more than `MAX_LINE` bytes, of which no more is known.
+    /// It has more than `LONGEST_LINE` bytes, of which no more is known.
     TooLong,
 }
 
@@ -36,7 +36,7 @@ pub struct Whole<'a> {
 /// A reader of lines: the front of the line that isn't ended, or the last line that was told.
 ///
 /// A line ends in LF, or at the end of input where a byte is left. One CR at its end is dropped. Its
-/// `MAX_LINE` bytes are counted after that, so the buffer has one byte more.
+/// `LONGEST_LINE` bytes are counted after that, so the buffer has one byte more.
 #[derive(Drop)]
 pub struct Lines {
     line: Vec<u8>,
@@ -84,12 +84,12 @@ impl Lines {
 
     /// The line that a piece begins with, lent from the piece: nothing is copied, and `line` doesn't have it. There is
     /// none where the reader holds the front of a line, where no LF is in the piece, or where the line has more than
-    /// `MAX_LINE` bytes: then `take` serves.
+    /// `LONGEST_LINE` bytes: then `take` serves.
     pub fn whole<'a>(&self, piece: &'a [u8]) -> Option<Whole<'a>>
         ensures used { IfSome result (λ whole. (0 < whole.used) × (whole.used ≤ length piece.now)) }
         ensures told { (part : List ℕ) → Holds self.now part →
             IfSome result (λ whole. told_lines part (take whole.used piece.now) ≡ Read whole.line.now ∷ []) }
-        ensures short { IfSome result (λ whole. length whole.line.now ≤ MAX_LINE) }
+        ensures short { IfSome result (λ whole. length whole.line.now ≤ LONGEST_LINE) }
         ensures held { (part : List ℕ) → Holds self.now part →
             IfSome result (λ whole. Holds self.now (open_part part (take whole.used piece.now))) }
         ensures none { Holds self.now [] → IfNone result (HasNoLf (take LINE_ROOM piece.now)) }
@@ -101,7 +101,7 @@ impl Lines {
             None => None,
             Some(at) => {
                 let line = before_cr(&piece[..at]);
-                if line.len() > MAX_LINE {
+                if line.len() > LONGEST_LINE {
                     return None;
                 }
                 Some(Whole { line, used: at + 1 })

@@ -1,7 +1,7 @@
 //! Worked lines, whose expected values were written by hand.
 ghost use Rattle.std.specs.Prelude.{◌<◌};
 
-use crate::{LINE_ROOM, Lines, MAX_LINE, read_all};
+use crate::{LINE_ROOM, LONGEST_LINE, Lines, read_all};
 use std::alloc::{AllocError, Global};
 use std::test::Fail;
 
@@ -94,10 +94,10 @@ fn tells_length(alloc: Global, count: usize, end: &[u8], want: usize) -> bool {
 fn long_lines(rt: HostRuntime) {
     // How many bytes stand before the end, the end, and what is told.
     let rows = [
-        (MAX_LINE, b"\n".as_slice(), MAX_LINE),
-        (MAX_LINE, b"\r\n", MAX_LINE),
-        (MAX_LINE, b"\r", MAX_LINE),
-        (MAX_LINE, b"\r\r\n", 0),
+        (LONGEST_LINE, b"\n".as_slice(), LONGEST_LINE),
+        (LONGEST_LINE, b"\r\n", LONGEST_LINE),
+        (LONGEST_LINE, b"\r", LONGEST_LINE),
+        (LONGEST_LINE, b"\r\r\n", 0),
         (LINE_ROOM, b"\n", 0),
         (LINE_ROOM, b"", 0),
         (9000, b"\r\n", 0),

@@ -2,7 +2,7 @@ use Rattle.std.proofs.Common.{◌≡◌, ◌≢◌, ◌+◌, ◌<◌, ℕ, List,
 use Rattle.std.specs.Bool.{MatchBool}
 use Rattle.std.proofs.lemmas.Bool.{cond-false, le-ltb, MatchBool-at_false}
 use Rattle.std.proofs.lemmas.List.Elements.{All-take}
-use Rattle.line_reader.specs.declared.limits.TheConstants.{LINE_ROOM, MAX_LINE}
+use Rattle.line_reader.specs.declared.limits.TheConstants.{LINE_ROOM, LONGEST_LINE}
 use Rattle.line_reader.specs.Cut.{ended_lines, open_part, without_cr}
 use Rattle.line_reader.specs.Held.{Held}
 use Rattle.line_reader.specs.Told.{Holds, IsFront, tells, told_lines}
@@ -20,30 +20,30 @@ at_begin held within part is_false test holds =
 pub returns-in-None-clause-none : goal.returns-in-None-clause-none
 returns-in-None-clause-none c empty = All-take (λ b. b ≢ 10) LINE_ROOM c.args.piece.now (HasNoLf_none c.args.piece.now c.in-None.ensures)
 
-pub returns-then-line-gt-MAX_LINE-clause-none : goal.returns-then-line-gt-MAX_LINE-clause-none
-returns-then-line-gt-MAX_LINE-clause-none c empty =
+pub returns-then-line-gt-LONGEST_LINE-clause-none : goal.returns-then-line-gt-LONGEST_LINE-clause-none
+returns-then-line-gt-LONGEST_LINE-clause-none c empty =
     let piece = c.args.piece.now in
     let at = c.in-Some.at in
     let found = c.in-Some.ensures in
-    let long : MAX_LINE < at = omega (arith, c.if-line-gt-MAX_LINE.true, ap length c.before_cr-line.ensures, without_cr-length (take at piece), length-take-le at piece) in
+    let long : LONGEST_LINE < at = omega (arith, c.if-line-gt-LONGEST_LINE.true, ap length c.before_cr-line.ensures, without_cr-length (take at piece), length-take-le at piece) in
     HasNoLf_none (take LINE_ROOM piece) (front_none piece LINE_ROOM (omega (arith, found.0.high)) (λ k low high. found.0.before k low (omega arith)))
 
-pub returns-else-line-gt-MAX_LINE-clause-told : goal.returns-else-line-gt-MAX_LINE-clause-told
-returns-else-line-gt-MAX_LINE-clause-told c part front =
+pub returns-else-line-gt-LONGEST_LINE-clause-told : goal.returns-else-line-gt-LONGEST_LINE-clause-told
+returns-else-line-gt-LONGEST_LINE-clause-told c part front =
     let piece = c.args.piece.now in
     let at = c.in-Some.at in
     let found = c.in-Some.ensures in
     let bytes = take at piece in
     let is_line = c.before_cr-line.ensures in
     let none = at_begin c.args.self.now c.is_within.result part c.if-is_within.false c.is_within.ensures front in
-    let short = le-ltb MAX_LINE (length (without_cr bytes)) (omega (arith, c.if-line-gt-MAX_LINE.false, ap length is_line)) in
+    let short = le-ltb LONGEST_LINE (length (without_cr bytes)) (omega (arith, c.if-line-gt-LONGEST_LINE.false, ap length is_line)) in
     ap (λ p. told_lines p (take (at + 1) piece)) none
     ∙ ap (map tells) (ap (ended_lines []) (front_at piece at found.0.high found.1) ∙ ended_lines_one [] bytes (front_none piece at found.0.high found.0.before))
     ∙ ap (λ t. t ∷ []) (cond-false _ Long (Read (without_cr bytes)) short)
     ∙ ap (λ l. Read l ∷ []) (sym is_line)
 
-pub returns-else-line-gt-MAX_LINE-clause-held : goal.returns-else-line-gt-MAX_LINE-clause-held
-returns-else-line-gt-MAX_LINE-clause-held c part front =
+pub returns-else-line-gt-LONGEST_LINE-clause-held : goal.returns-else-line-gt-LONGEST_LINE-clause-held
+returns-else-line-gt-LONGEST_LINE-clause-held c part front =
     let piece = c.args.piece.now in
     let at = c.in-Some.at in
     let found = c.in-Some.ensures in
