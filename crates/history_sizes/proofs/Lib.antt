@@ -1,2 +1,3 @@
 pub mod Bounds
+pub mod Fitting
 pub mod Rising
