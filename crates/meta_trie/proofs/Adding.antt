@@ -13,8 +13,9 @@ use Rattle.anchor_rules.proofs.Edits.{split_anchors, split_left, split_right, sp
 use Rattle.anchor_rules.proofs.ItemChanges.{Place, place_of}
 use Rattle.anchor_rules.proofs.Prefixes.{heads_more, heads_same, lcp_short, lcp_sym}
 use Rattle.row_words.specs.declared.shape.Shape.{Shape}
-use Rattle.row_words.specs.Layout.{leaf_word}
+use Rattle.row_words.specs.Layout.{leaf_word, rows_begin}
 use Rattle.row_words.specs.Decode.{mark_at, anchor_at, next_at, IsLive}
+use Rattle.row_words.specs.declared.layout.TheConstants.{LONGEST_ANCHOR}
 use Rattle.meta_trie.specs.Trie.{Holds, used_of}
 use Rattle.meta_trie.specs.Stands.{LeafChain, StandsFor, first_link, fresh_count, prefix_count}
 use Rattle.meta_trie.specs.Words.{RowAdded}
@@ -112,7 +113,7 @@ neighbour k ws A left lo hi s at = go p.back (link_of p.front k ws 0 lo left p.b
     }
 
 module _ (k : Shape) (w0 w1 ws : List ℕ) (A : Anchors) (left : ℕ) (lo : List ℕ) (hi : Option (List ℕ)) (a : List ℕ) (leaf next : ℕ) (s : StandsFor k w0 A) (g : Grows A left lo hi a) (new : span A leaf ≡ None) (lt : leaf < k.leaves) (link : next ≡ next_at k w0 left)
-    (add : RowAdded k w0 w1 left leaf a next) (rows : (x : ℕ) → 4 + k.heads + 8 * k.items ≤ x → get_or ws x 0 ≡ get_or w1 x 0)
+    (add : RowAdded k w0 w1 left leaf a next) (rows : (x : ℕ) → rows_begin k ≤ x → get_or ws x 0 ≡ get_or w1 x 0)
     (longest : get_or ws 0 0 ≡ max (length a) (longest_anchor A)) (live : get_or ws 3 0 ≡ length A + 1)
     (trie : Holds k ws (item (with_split A left a leaf))) (root : trie.owner 0 ≡ Some []) (used : used_of ws ≡ prefix_count A + (length a - shared lo a hi)) where
   p : Place A left lo hi
@@ -140,7 +141,7 @@ module _ (k : Shape) (w0 w1 ws : List ℕ) (A : Anchors) (left : ℕ) (lo : List
   added_stands = record {
     anchors = split_anchors A left a leaf lo hi new g.at g.above g.before s.anchors;
     zero = ap first_leaf split ∙ first_leaf-split p.front (lo, left) (a, leaf) p.back ∙ ap first_leaf (sym p.whole) ∙ s.zero;
-    keys = subst (AllByRecursion (λ (q : List ℕ × ℕ). (length q.0 < 256) × AreBytes q.0 × (q.1 < k.leaves))) (sym split) (all_split _ p.front (lo, left) (a, leaf) p.back (subst (AllByRecursion (λ (q : List ℕ × ℕ). (length q.0 < 256) × AreBytes q.0 × (q.1 < k.leaves))) p.whole s.keys) (g.short, g.bytes, lt));
+    keys = subst (AllByRecursion (λ (q : List ℕ × ℕ). (length q.0 < LONGEST_ANCHOR + 1) × AreBytes q.0 × (q.1 < k.leaves))) (sym split) (all_split _ p.front (lo, left) (a, leaf) p.back (subst (AllByRecursion (λ (q : List ℕ × ℕ). (length q.0 < LONGEST_ANCHOR + 1) × AreBytes q.0 × (q.1 < k.leaves))) p.whole s.keys) (g.short, g.bytes, lt));
     chained = chain_rows k w1 ws _ 0 rows (subst (LeafChain k w1 0) (sym split) (chain_split k w0 w1 left leaf a next add p.front lo p.back 0 (subst Rises p.whole g.rises) (subst (AllByRecursion (λ (q : List ℕ × ℕ). q.1 ≢ leaf)) p.whole (unlisted A leaf new)) next_is (subst (LeafChain k w0 0) p.whole s.chained)));
     dead = dead_new;
     trie = trie;

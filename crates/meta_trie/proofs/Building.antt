@@ -16,6 +16,7 @@ use Rattle.anchor_rules.proofs.Ats.{leaf_in}
 use Rattle.map_model.specs.declared.refusal.TableFull.{TableFull}
 use Rattle.map_model.specs.declared.refusal.TableFull.TheVariants.{Leaves, Items, Versions}
 use Rattle.row_words.specs.declared.shape.Shape.{Shape}
+use Rattle.row_words.specs.declared.layout.TheConstants.{LONGEST_ANCHOR, UPPER, LENGTHS}
 use Rattle.meta_trie.specs.Stands.{fresh_count, prefix_count, new_count, FitsSplit, AreItemsFull}
 use Rattle.anchor_rules.proofs.Prefixes.{lcp_sym, lcp_short}
 use Rattle.meta_trie.proofs.LeafRows.{leaves_distinct}
@@ -161,7 +162,7 @@ past_at cap A i lt past = (leaf_at A i, (some_span (span A (leaf_at A i)) (leaf_
     some_span None ne = absurd (ne refl)
     some_span (Some s) ne = refl
 
-pub short_at : (A : Anchors) (i : ℕ) → AreShort A → i < length A → length (anchor_at A i) < 256
+pub short_at : (A : Anchors) (i : ℕ) → AreShort A → i < length A → length (anchor_at A i) < LONGEST_ANCHOR + 1
 short_at [] i s lt = absurd (omega arith)
 short_at (x ∷ A) zero s lt = s.0
 short_at (x ∷ A) (suc i) s lt = short_at A i s.1 (omega arith)
@@ -191,14 +192,14 @@ lcp_within b a = let s = lcp_sym b a in let l = lcp_short a b in omega (arith, s
 -- one step of the count, and what bounds it
 pub record Counting (A : Anchors) (i count : ℕ) : Type 0 where
   pub more : count + (length (anchor_at A i) - lcp (anchor_at A (i - 1)) (anchor_at A i)) + fresh_count (anchor_at A i) (drop (i + 1) A) ≡ prefix_count A
-  pub short : length (anchor_at A i) < 256
+  pub short : length (anchor_at A i) < LONGEST_ANCHOR + 1
   pub within : lcp (anchor_at A (i - 1)) (anchor_at A i) ≤ length (anchor_at A i)
-  pub few : prefix_count A < 4294967296
+  pub few : prefix_count A < UPPER
 
-pub count_few : (A : Anchors) → AreShort A → length A ≤ 65536 → prefix_count A < 4294967296
+pub count_few : (A : Anchors) → AreShort A → length A ≤ LENGTHS → prefix_count A < UPPER
 count_few A s few = let e = fresh_few [] A s in omega (arith, e, few)
 
-pub counting : (A : Anchors) (i count : ℕ) → AreShort A → length A ≤ 65536 → i < length A → count + fresh_count (anchor_at A (i - 1)) (drop i A) ≡ prefix_count A → Counting A i count
+pub counting : (A : Anchors) (i count : ℕ) → AreShort A → length A ≤ LENGTHS → i < length A → count + fresh_count (anchor_at A (i - 1)) (drop i A) ≡ prefix_count A → Counting A i count
 counting A i count s few lt e =
     let n = fresh_next (anchor_at A (i - 1)) A i lt in
     let one : suc i ≡ i + 1 = omega arith in

@@ -17,8 +17,9 @@ use Rattle.anchor_rules.proofs.ItemParts.{rises_back, leaf_apart, span_at, leftm
 use Rattle.anchor_rules.proofs.Parts.{Around, around}
 use Rattle.anchor_rules.proofs.Spans.{no_span}
 use Rattle.row_words.specs.declared.shape.Shape.{Shape}
-use Rattle.row_words.specs.Layout.{leaf_word}
+use Rattle.row_words.specs.Layout.{leaf_word, rows_begin}
 use Rattle.row_words.specs.Decode.{mark_at, anchor_at, previous_at, next_at, IsLive}
+use Rattle.row_words.specs.declared.layout.TheConstants.{LONGEST_ANCHOR}
 use Rattle.meta_trie.specs.Trie.{Holds, used_of}
 use Rattle.meta_trie.specs.Stands.{LeafChain, StandsFor, first_link, prefix_count, ShareNext}
 use Rattle.meta_trie.specs.Words.{SameRest}
@@ -95,8 +96,8 @@ module _ (k : Shape) (w0 : List ℕ) (A : Anchors) (left leaf : ℕ) (lo a : Lis
   pub left_apart : left ≢ leaf
   left_apart = leaf_apart [] (lo, left) a leaf gap.back (rises_back gap.front ((lo, left) ∷ (a, leaf) ∷ gap.back) rises)
 
-  pub short : (length a < 256) × AreBytes a × (leaf < k.leaves)
-  short = leaf_fits gap.front (λ (q : List ℕ × ℕ). (length q.0 < 256) × AreBytes q.0 × (q.1 < k.leaves)) (lo, left) (a, leaf) gap.back (subst (AllByRecursion (λ (q : List ℕ × ℕ). (length q.0 < 256) × AreBytes q.0 × (q.1 < k.leaves))) gap.whole s.keys)
+  pub short : (length a < LONGEST_ANCHOR + 1) × AreBytes a × (leaf < k.leaves)
+  short = leaf_fits gap.front (λ (q : List ℕ × ℕ). (length q.0 < LONGEST_ANCHOR + 1) × AreBytes q.0 × (q.1 < k.leaves)) (lo, left) (a, leaf) gap.back (subst (AllByRecursion (λ (q : List ℕ × ℕ). (length q.0 < LONGEST_ANCHOR + 1) × AreBytes q.0 × (q.1 < k.leaves))) gap.whole s.keys)
 
   -- the links of the row give its neighbours
   pub links : (previous_at k w0 leaf ≡ left + 1) × (next_at k w0 leaf - 1 ≡ leaf_after A leaf)
@@ -156,7 +157,7 @@ module _ (k : Shape) (w0 : List ℕ) (A : Anchors) (left leaf : ℕ) (lo a : Lis
         ∙ rest.rows (leaf_word k l) (omega arith)
         ∙ s.dead l m gone_too)
 
-    rows_high : (x : ℕ) → 4 + k.heads + 8 * k.items ≤ x → get_or w3 x 0 ≡ get_or d.between x 0
+    rows_high : (x : ℕ) → rows_begin k ≤ x → get_or w3 x 0 ≡ get_or d.between x 0
     rows_high x l = d.high x (omega (arith, l))
 
     same_trie : SameTrie k w1 w3 (λ l. l ≢ leaf)
@@ -200,7 +201,7 @@ module _ (k : Shape) (w0 : List ℕ) (A : Anchors) (left leaf : ℕ) (lo a : Lis
     dropped_stands = record {
       anchors = new_anchors;
       zero = ap first_leaf gap.merged ∙ sym (first_leaf-split gap.front (lo, left) (a, leaf) gap.back) ∙ ap first_leaf (sym gap.whole) ∙ s.zero;
-      keys = subst (AllByRecursion (λ (q : List ℕ × ℕ). (length q.0 < 256) × AreBytes q.0 × (q.1 < k.leaves))) (sym gap.merged) (all_unsplit _ gap.front (lo, left) (a, leaf) gap.back (subst (AllByRecursion (λ (q : List ℕ × ℕ). (length q.0 < 256) × AreBytes q.0 × (q.1 < k.leaves))) gap.whole s.keys));
+      keys = subst (AllByRecursion (λ (q : List ℕ × ℕ). (length q.0 < LONGEST_ANCHOR + 1) × AreBytes q.0 × (q.1 < k.leaves))) (sym gap.merged) (all_unsplit _ gap.front (lo, left) (a, leaf) gap.back (subst (AllByRecursion (λ (q : List ℕ × ℕ). (length q.0 < LONGEST_ANCHOR + 1) × AreBytes q.0 × (q.1 < k.leaves))) gap.whole s.keys));
       chained = chain_rows k d.between w3 _ 0 rows_high chain_between;
       dead = λ l m none. rows_high (leaf_word k l) (omega arith) ∙ dead_between l m none;
       trie = trie_kept k w1 w3 (λ l. l ≢ leaf) same_trie (item (with_merge A leaf)) keeps first_trie;
@@ -216,7 +217,7 @@ module _ (k : Shape) (w0 : List ℕ) (A : Anchors) (left leaf : ℕ) (lo a : Lis
 -- what the rows say of a leaf whose anchor isn't the first one, and of its neighbours
 pub record Mergeable (k : Shape) (ws : List ℕ) (A : Anchors) (leaf : ℕ) : Type 0 where
   pub b : Between A leaf
-  pub short : length b.a < 256
+  pub short : length b.a < LONGEST_ANCHOR + 1
   pub previous_is : previous_at k ws leaf ≡ b.left + 1
   pub after_is : next_at k ws leaf - 1 ≡ leaf_after A leaf
   pub before : Neighbour k ws b.left b.lo (Some b.a)
@@ -243,7 +244,7 @@ shrinks_by k ws A leaf s m x previous next front back e pe ne f b =
       are = s.anchors;
       at = ap (span A) left ∙ m.b.at ∙ ap (λ (a : List ℕ). Some (m.b.lo, Some a)) (sym e);
       gone = m.b.gone ∙ ap (λ (a : List ℕ). Some (a, m.b.hi)) (sym e);
-      short = subst (λ (a : List ℕ). length a < 256) (sym e) m.short;
+      short = subst (λ (a : List ℕ). length a < LONGEST_ANCHOR + 1) (sym e) m.short;
       after_is = ap (λ (n : ℕ). n - 1) ne ∙ m.after_is;
       front_is = f.more m.b.left (pe ∙ m.previous_is) ∙ ap (λ (a : List ℕ). lcp a x + 1) m.before.anchor_is;
       back_is = back_by k ws leaf m.b.a m.b.hi x back m.beside (subst (λ (n : ℕ). ShareNext k ws n x back) ne b);

@@ -9,8 +9,9 @@ use Rattle.key_bytes.specs.Order.{is_below}
 use Rattle.anchor_rules.specs.Anchors.{Anchors, Span, is_before, span, has_leaf, cuts, splits, with_split}
 use Rattle.anchor_rules.specs.Items.{Item, item, shared}
 use Rattle.row_words.specs.declared.shape.Shape.{Shape}
-use Rattle.row_words.specs.Layout.{leaf_word}
+use Rattle.row_words.specs.Layout.{leaf_word, rows_begin}
 use Rattle.row_words.specs.Decode.{mark_at, anchor_at, next_at}
+use Rattle.row_words.specs.declared.layout.TheConstants.{LONGEST_ANCHOR, UPPER}
 use Rattle.meta_trie.specs.Stands.{StandsFor, prefix_count, new_count, ShareNext}
 use Rattle.meta_trie.specs.Words.{RowAdded, RowLaid, SameRest}
 use Rattle.meta_trie.specs.Grows.{Grows, Growing, back_count}
@@ -54,7 +55,7 @@ splits_cut A left a leaf e =
         let parts = and_parts (is_below s.0 a) (is_before s.1 a) (sym (ap (λ (o : Option Span). cuts o a) is) ∙ cut) in
         record { lo = s.0; hi = s.1; at = is; above = parts.0; before = parts.1; new = new }
 
-pub cut_grows : (k : Shape) (ws : List ℕ) (A : Anchors) (left : ℕ) (a : List ℕ) (leaf : ℕ) → StandsFor k ws A → (c : Cut A left a leaf) → length a < 256 → AreBytes a → Grows A left c.lo c.hi a
+pub cut_grows : (k : Shape) (ws : List ℕ) (A : Anchors) (left : ℕ) (a : List ℕ) (leaf : ℕ) → StandsFor k ws A → (c : Cut A left a leaf) → length a < LONGEST_ANCHOR + 1 → AreBytes a → Grows A left c.lo c.hi a
 cut_grows k ws A left a leaf s c short bytes = record { rises = s.anchors.rises; at = c.at; above = c.above; before = c.before; short = short; bytes = bytes }
 
 pub new_count-at : (A : Anchors) (left : ℕ) (lo : List ℕ) (hi : Option (List ℕ)) (a : List ℕ) → span A left ≡ Some (lo, hi) → new_count (span A left) a ≡ length a - shared lo a hi
@@ -64,7 +65,7 @@ module _ (k : Shape) (old w : List ℕ) (A : Anchors) (left : ℕ) (lo : List �
   dead : mark_at k old leaf ≡ 0
   dead = s.dead leaf lt (ap (λ (o : Option Span). is_some o) new)
 
-  rows_between : (x : ℕ) → 4 + k.heads + 8 * k.items ≤ x → get_or w x 0 ≡ get_or l.between x 0
+  rows_between : (x : ℕ) → rows_begin k ≤ x → get_or w x 0 ≡ get_or l.between x 0
   rows_between x m = l.high x (omega (arith, m))
 
   same_trie : SameTrie k old w (λ x. Unit {0})
@@ -128,7 +129,7 @@ pub record Splittable (k : Shape) (ws : List ℕ) (A : Anchors) (left : ℕ) (a 
   pub fits : next_at k ws left ≤ k.leaves
   pub apart : left ≢ leaf
   pub behind : next_at k ws left ≢ leaf + 1
-  pub few : get_or ws 3 0 < 4294967296
+  pub few : get_or ws 3 0 < UPPER
 
 pub splittable : (k : Shape) (ws : List ℕ) (A : Anchors) (left : ℕ) (a : List ℕ) (leaf : ℕ) → StandsFor k ws A → splits A left a leaf ≡ true → leaf < k.leaves → Splittable k ws A left a leaf
 splittable k ws A left a leaf s e lt =

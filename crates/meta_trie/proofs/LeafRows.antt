@@ -11,6 +11,7 @@ use Rattle.anchor_rules.specs.Anchors.{Anchors, Span, span, has_leaf, Rises}
 use Rattle.anchor_rules.proofs.Spans.{span_here, span_later, no_span}
 use Rattle.row_words.specs.declared.shape.Shape.{Shape}
 use Rattle.row_words.specs.Decode.{mark_at, IsLive}
+use Rattle.row_words.specs.declared.layout.TheConstants.{LONGEST_ANCHOR}
 use Rattle.meta_trie.specs.Stands.{LeafChain, StandsFor}
 
 -- a leaf of the list is live
@@ -37,7 +38,7 @@ unfolding IsDistinct
 leaves_distinct [] r = tt
 leaves_distinct (q ∷ A) r = (distinct_from q.1 A (unlisted A q.1 r.1), leaves_distinct A r.2)
 
-leaf_below : (k : Shape) (A : Anchors) → AllByRecursion (λ (q : List ℕ × ℕ). (length q.0 < 256) × AreBytes q.0 × (q.1 < k.leaves)) A → (x : ℕ) → list_any (eqb x) (map (λ (q : List ℕ × ℕ). q.1) A) ≡ true → x < k.leaves
+leaf_below : (k : Shape) (A : Anchors) → AllByRecursion (λ (q : List ℕ × ℕ). (length q.0 < LONGEST_ANCHOR + 1) × AreBytes q.0 × (q.1 < k.leaves)) A → (x : ℕ) → list_any (eqb x) (map (λ (q : List ℕ × ℕ). q.1) A) ≡ true → x < k.leaves
 leaf_below k [] a x any = absurd (false≢true any)
 leaf_below k (q ∷ A) a x any = elim (eqb x q.1) as (λ (t : Bool). eqb x q.1 ≡ t → t || list_any (eqb x) (map (λ (q : List ℕ × ℕ). q.1) A) ≡ true → x < k.leaves) [
   | true ↦ λ is more. let same : x ≡ q.1 = eqb-true x q.1 is in omega (arith, same, a.0.2)

@@ -5,15 +5,16 @@ use Rattle.std.proofs.Math.ListN.{set}
 use Rattle.std.proofs.lemmas.Bool.{cases_order, ne_eqb}
 use Rattle.row_words.specs.declared.shape.Shape.{Shape}
 use Rattle.row_words.specs.declared.rows.ItemRow.{ItemRow}
-use Rattle.row_words.specs.Layout.{item_word}
+use Rattle.row_words.specs.Layout.{item_word, rows_begin}
 use Rattle.row_words.specs.Decode.{head_at, item_at, link_word}
+use Rattle.row_words.specs.declared.layout.TheConstants.{UPPER, LENGTHS, ANCHOR_MARK}
 use Rattle.meta_trie.specs.Trie.{named_free, used_of, free_of}
 use Rattle.meta_trie.specs.Words.{Put, NextSet, Relinked, Unlinked}
 use Rattle.meta_trie.proofs.Segments.{same_item}
 use Rattle.meta_trie.proofs.Writes.{anchors_same}
 
 -- one word of an item was written
-pub next_set : (k : Shape) (ws : List ℕ) (i word next : ℕ) → item_word k i + 1 < length ws → word % 4294967296 ≡ next → word / 4294967296 ≡ link_word k ws i / 4294967296 → NextSet k ws (set ws (item_word k i + 1) word) i next
+pub next_set : (k : Shape) (ws : List ℕ) (i word next : ℕ) → item_word k i + 1 < length ws → word % UPPER ≡ next → word / UPPER ≡ link_word k ws i / UPPER → NextSet k ws (set ws (item_word k i + 1) word) i next
 next_set k ws i word next room low high =
     let w : List ℕ = set ws (item_word k i + 1) word in
     let other = λ (x : ℕ) (ne : x ≢ item_word k i + 1). get_or-set_other ws (item_word k i + 1) x word 0 ne in
@@ -23,10 +24,10 @@ next_set k ws i word next room low high =
     let e4 : get_or (set ws (item_word k i + 1) word) (item_word k i + 4) 0 ≡ get_or ws (item_word k i + 4) 0 = other (item_word k i + 4) (omega arith) in
     let e5 : get_or (set ws (item_word k i + 1) word) (item_word k i + 5) 0 ≡ get_or ws (item_word k i + 5) 0 = other (item_word k i + 5) (omega arith) in
     let e6 : get_or (set ws (item_word k i + 1) word) (item_word k i + 6) 0 ≡ get_or ws (item_word k i + 6) 0 = other (item_word k i + 6) (omega arith) in
-    let n : get_or (set ws (item_word k i + 1) word) (item_word k i + 1) 0 % 4294967296 ≡ next = ap (λ (x : ℕ). x % 4294967296) e1 ∙ low in
-    let len : get_or (set ws (item_word k i + 1) word) (item_word k i + 1) 0 / 4294967296 % 65536 ≡ link_word k ws i / 4294967296 % 65536 = ap (λ (x : ℕ). x / 4294967296 % 65536) e1 ∙ ap (λ (x : ℕ). x % 65536) high in
-    let bit : word / 281474976710656 ≡ link_word k ws i / 281474976710656 = omega (arith, high) in
-    let mark : (get_or (set ws (item_word k i + 1) word) (item_word k i + 1) 0 / 281474976710656 % 2 == 1) ≡ (link_word k ws i / 281474976710656 % 2 == 1) = ap (λ (x : ℕ). x / 281474976710656 % 2 == 1) e1 ∙ ap (λ (x : ℕ). x % 2 == 1) bit in
+    let n : get_or (set ws (item_word k i + 1) word) (item_word k i + 1) 0 % UPPER ≡ next = ap (λ (x : ℕ). x % UPPER) e1 ∙ low in
+    let len : get_or (set ws (item_word k i + 1) word) (item_word k i + 1) 0 / UPPER % LENGTHS ≡ link_word k ws i / UPPER % LENGTHS = ap (λ (x : ℕ). x / UPPER % LENGTHS) e1 ∙ ap (λ (x : ℕ). x % LENGTHS) high in
+    let bit : word / ANCHOR_MARK ≡ link_word k ws i / ANCHOR_MARK = omega (arith, high) in
+    let mark : (get_or (set ws (item_word k i + 1) word) (item_word k i + 1) 0 / ANCHOR_MARK % 2 == 1) ≡ (link_word k ws i / ANCHOR_MARK % 2 == 1) = ap (λ (x : ℕ). x / ANCHOR_MARK % 2 == 1) e1 ∙ ap (λ (x : ℕ). x % 2 == 1) bit in
     record { item = cc; others = other }
 
 -- a link behind an item was set
@@ -45,14 +46,14 @@ relinked_item k ws w i bucket next lt bl s = record {
   hashes = λ j l. s.others (item_word k j) (omega arith);
   head =
       let ne : i + 1 ≢ 0 = omega arith in
-      ap (λ (x : ℕ). x % 4294967296) (s.others (4 + bucket) (omega arith)) ∙ ap (λ (t : Bool). if t then next else head_at k ws bucket) (sym (ne_eqb (i + 1) 0 ne));
-  heads = λ b ne l. ap (λ (x : ℕ). x % 4294967296) (s.others (4 + b) (omega arith));
+      ap (λ (x : ℕ). x % UPPER) (s.others (4 + bucket) (omega arith)) ∙ ap (λ (t : Bool). if t then next else head_at k ws bucket) (sym (ne_eqb (i + 1) 0 ne));
+  heads = λ b ne l. ap (λ (x : ℕ). x % UPPER) (s.others (4 + b) (omega arith));
   header = λ x l. s.others x (omega arith);
   rows = λ x l. s.others x (omega arith);
 }
 
 -- the head of a bucket was set
-pub relinked_head : (k : Shape) (ws : List ℕ) (bucket next : ℕ) → bucket < k.heads → 4 + bucket < length ws → next < 4294967296 → Relinked k ws (set ws (4 + bucket) next) 0 bucket next
+pub relinked_head : (k : Shape) (ws : List ℕ) (bucket next : ℕ) → bucket < k.heads → 4 + bucket < length ws → next < UPPER → Relinked k ws (set ws (4 + bucket) next) 0 bucket next
 relinked_head k ws bucket next bl room small =
     let other = λ (x : ℕ) (ne : x ≢ 4 + bucket). get_or-set_other ws (4 + bucket) x next 0 ne in
     record {
@@ -61,8 +62,8 @@ relinked_head k ws bucket next bl room small =
           same_item k (set ws (4 + bucket) next) ws j (λ o a b. other (item_word k j + o) (omega arith))
           ∙ ap (λ (t : Bool). record (item_at k ws j) { next = if t then next else (item_at k ws j).next }) (sym (ne_eqb 0 (j + 1) ne));
       hashes = λ j l. other (item_word k j) (omega arith);
-      head = ap (λ (x : ℕ). x % 4294967296) (get_or-set_same ws (4 + bucket) next 0 room) ∙ omega (arith, small);
-      heads = λ b ne l. ap (λ (x : ℕ). x % 4294967296) (other (4 + b) (omega (arith, ne)));
+      head = ap (λ (x : ℕ). x % UPPER) (get_or-set_same ws (4 + bucket) next 0 room) ∙ omega (arith, small);
+      heads = λ b ne l. ap (λ (x : ℕ). x % UPPER) (other (4 + b) (omega (arith, ne)));
       header = λ x l. other x (omega arith);
       rows = λ x l. other x (omega arith);
     }
@@ -73,14 +74,14 @@ module _ (k : Shape) (ws w1 w2 w3 : List ℕ) (i before bucket next free used : 
   third : (x : ℕ) → 4 ≤ x → get_or w3 x 0 ≡ get_or w2 x 0
   third x l = p.behind x (omega arith)
 
-  rows_stay : (x : ℕ) → 4 + k.heads + 8 * k.items ≤ x → get_or w3 x 0 ≡ get_or ws x 0
+  rows_stay : (x : ℕ) → rows_begin k ≤ x → get_or w3 x 0 ≡ get_or ws x 0
   rows_stay x l = third x (omega arith) ∙ r2.rows x l ∙ r1.rows x l
 
   item_third : (j : ℕ) → item_at k w3 j ≡ item_at k w2 j
   item_third j = same_item k w3 w2 j (λ o a b. third (item_word k j + o) (omega arith))
 
   head_third : (b : ℕ) → head_at k w3 b ≡ head_at k w2 b
-  head_third b = ap (λ (x : ℕ). x % 4294967296) (third (4 + b) (omega arith))
+  head_third b = ap (λ (x : ℕ). x % UPPER) (third (4 + b) (omega arith))
 
   pub unlinked_words : Unlinked k ws w3 i before bucket
   unlinked_words = record {

@@ -5,15 +5,16 @@ use Rattle.std.proofs.lemmas.Bool.{cases_order}
 use Rattle.anchor_rules.specs.Items.{Item}
 use Rattle.row_words.specs.declared.shape.Shape.{Shape}
 use Rattle.row_words.specs.declared.rows.ItemRow.{ItemRow}
-use Rattle.row_words.specs.Layout.{item_word, leaf_word}
+use Rattle.row_words.specs.Layout.{item_word, leaf_word, rows_begin}
 use Rattle.row_words.specs.Bytes.{bytes_from}
 use Rattle.row_words.specs.Decode.{head_at, item_at, mark_at, anchor_at, IsLive}
 use Rattle.row_words.proofs.Packed.{bytes_same, bytes_is}
+use Rattle.row_words.specs.declared.layout.TheConstants.{LONGEST_ANCHOR, ANCHOR_WORDS, LEAF_WORDS, PREVIOUS_PART, NEXT_PART, UPPER}
 use Rattle.meta_trie.specs.Trie.{Says, Entry, Chain, Stands, Spare, Holds, used_of, free_of}
 use Rattle.meta_trie.specs.Words.{Put, RowPut, RowWords}
 use Rattle.meta_trie.proofs.Owners.{chain_kept, spare_kept}
 
-pub row_put : (k : Shape) (old new values : List ℕ) (leaf : ℕ) (anchor : List ℕ) (previous next : ℕ) → leaf < k.leaves → length anchor < 256 → length values ≡ 35 → previous < 4294967296 → next < 4294967296 → RowWords values anchor previous next → Put old new (leaf_word k leaf) values → RowPut k old new leaf anchor previous next
+pub row_put : (k : Shape) (old new values : List ℕ) (leaf : ℕ) (anchor : List ℕ) (previous next : ℕ) → leaf < k.leaves → length anchor < LONGEST_ANCHOR + 1 → length values ≡ LEAF_WORDS → previous < UPPER → next < UPPER → RowWords values anchor previous next → Put old new (leaf_word k leaf) values → RowPut k old new leaf anchor previous next
 row_put k old new values leaf anchor previous next lt short many pl nl r p =
     let mark : mark_at k new leaf ≡ length anchor + 1 = ap (λ (x : ℕ). get_or new x 0) (omega arith) ∙ p.inside 0 (omega (arith, many)) ∙ r.mark in
     record {
@@ -22,15 +23,15 @@ row_put k old new values leaf anchor previous next lt short many pl nl r p =
           let n : mark_at k new leaf - 1 ≡ length anchor = omega (arith, mark) in
           ap (bytes_from new (leaf_word k leaf + 1)) n
           ∙ bytes_is new (leaf_word k leaf + 1) anchor (λ j l.
-          let i : j / 8 < 32 = omega (arith, l, short) in
+          let i : j / 8 < ANCHOR_WORDS = omega (arith, l, short) in
           let at : leaf_word k leaf + 1 + j / 8 ≡ leaf_word k leaf + (j / 8 + 1) = omega arith in
           let same : 8 * (j / 8) + j % 8 ≡ j = omega arith in
           ap (λ (x : ℕ). get_or new x 0 / 2 ^ (8 * (j % 8)) % 256) at
           ∙ ap (λ (w : ℕ). w / 2 ^ (8 * (j % 8)) % 256) (p.inside (j / 8 + 1) (omega (arith, many, i)))
           ∙ r.bytes (j / 8) i (j % 8) (omega arith)
           ∙ ap (λ (x : ℕ). get_or anchor x 0) same);
-      previous_is = ap (λ (w : ℕ). w % 4294967296) (p.inside 33 (omega (arith, many)) ∙ r.previous_is) ∙ omega (arith, pl);
-      next_is = ap (λ (w : ℕ). w % 4294967296) (p.inside 34 (omega (arith, many)) ∙ r.next_is) ∙ omega (arith, nl);
+      previous_is = ap (λ (w : ℕ). w % UPPER) (p.inside PREVIOUS_PART (omega (arith, many)) ∙ r.previous_is) ∙ omega (arith, pl);
+      next_is = ap (λ (w : ℕ). w % UPPER) (p.inside NEXT_PART (omega (arith, many)) ∙ r.next_is) ∙ omega (arith, nl);
       before = p.before;
       behind = λ x l. p.behind x (omega (arith, l, many));
     }
@@ -38,7 +39,7 @@ row_put k old new values leaf anchor previous next lt short many pl nl r p =
 -- the heads, the items and their two header words stay, and so do the anchors of the live leaves that are kept
 pub record SameTrie (k : Shape) (old new : List ℕ) (Keeps : ℕ → Type 0) : Type 0 where
   pub low : (x : ℕ) → 0 < x → x < 3 → get_or new x 0 ≡ get_or old x 0
-  pub items : (x : ℕ) → 4 ≤ x → x < 4 + k.heads + 8 * k.items → get_or new x 0 ≡ get_or old x 0
+  pub items : (x : ℕ) → 4 ≤ x → x < rows_begin k → get_or new x 0 ≡ get_or old x 0
   pub anchors : (leaf : ℕ) → Keeps leaf → IsLive k old leaf → (mark_at k new leaf ≡ mark_at k old leaf) × (anchor_at k new leaf ≡ anchor_at k old leaf)
 
 module _ (k : Shape) (old new : List ℕ) (Keeps : ℕ → Type 0) (s : SameTrie k old new Keeps) where
@@ -53,7 +54,7 @@ module _ (k : Shape) (old new : List ℕ) (Keeps : ℕ → Type 0) (s : SameTrie
       cc
 
   head_same : (b : ℕ) → b < k.heads → head_at k new b ≡ head_at k old b
-  head_same b l = ap (λ (w : ℕ). w % 4294967296) (s.items (4 + b) (omega arith) (omega arith))
+  head_same b l = ap (λ (w : ℕ). w % UPPER) (s.items (4 + b) (omega arith) (omega arith))
 
   stands_kept : (known : List ℕ → Option Item) → ((p : List ℕ) (it : Item) → known p ≡ Some it → Keeps it.leftmost) → (b : ℕ) (es : List Entry) → AllByRecursion (Stands k old known b) es → AllByRecursion (Stands k new known b) es
   stands_kept known keeps b [] all = tt
@@ -111,14 +112,14 @@ module _ (k : Shape) (old new : List ℕ) (Keeps : ℕ → Type 0) (s : SameTrie
   trie_kept-owner known keeps h i = refl
 
 -- the words of another leaf's row
-pub other_row : (k : Shape) (old new : List ℕ) (leaf other : ℕ) → other ≢ leaf → ((x : ℕ) → x < leaf_word k leaf → get_or new x 0 ≡ get_or old x 0) → ((x : ℕ) → leaf_word k leaf + 35 ≤ x → get_or new x 0 ≡ get_or old x 0) → (o : ℕ) → o < 35 → get_or new (leaf_word k other + o) 0 ≡ get_or old (leaf_word k other + o) 0
+pub other_row : (k : Shape) (old new : List ℕ) (leaf other : ℕ) → other ≢ leaf → ((x : ℕ) → x < leaf_word k leaf → get_or new x 0 ≡ get_or old x 0) → ((x : ℕ) → leaf_word k leaf + LEAF_WORDS ≤ x → get_or new x 0 ≡ get_or old x 0) → (o : ℕ) → o < LEAF_WORDS → get_or new (leaf_word k other + o) 0 ≡ get_or old (leaf_word k other + o) 0
 other_row k old new leaf other ne before behind o l = elim (cases_order other leaf) [
   | inl e ↦ absurd (ne e)
   | inr r ↦ elim r [ inl below ↦ before (leaf_word k other + o) (omega (arith, below, l)) | inr above ↦ behind (leaf_word k other + o) (omega (arith, above)) ]
 ]
 
 -- where the mark and the words of the bytes stay, the anchor does
-pub anchor_same : (k : Shape) (old new : List ℕ) (leaf : ℕ) → mark_at k old leaf ≤ 256 → ((o : ℕ) → o < 33 → get_or new (leaf_word k leaf + o) 0 ≡ get_or old (leaf_word k leaf + o) 0) → (mark_at k new leaf ≡ mark_at k old leaf) × (anchor_at k new leaf ≡ anchor_at k old leaf)
+pub anchor_same : (k : Shape) (old new : List ℕ) (leaf : ℕ) → mark_at k old leaf ≤ LONGEST_ANCHOR + 1 → ((o : ℕ) → o < PREVIOUS_PART → get_or new (leaf_word k leaf + o) 0 ≡ get_or old (leaf_word k leaf + o) 0) → (mark_at k new leaf ≡ mark_at k old leaf) × (anchor_at k new leaf ≡ anchor_at k old leaf)
 anchor_same k old new leaf most same =
     let first : leaf_word k leaf + 0 ≡ leaf_word k leaf = omega arith in
     let m : mark_at k new leaf ≡ mark_at k old leaf = ap (λ (x : ℕ). get_or new x 0) (sym first) ∙ same 0 (omega arith) ∙ ap (λ (x : ℕ). get_or old x 0) first in (
@@ -141,7 +142,7 @@ row_unused k old new leaf anchor previous next r dead = record {
 }
 
 -- a link between two rows was set
-pub link_set : (k : Shape) (old new : List ℕ) (leaf o : ℕ) → 33 ≤ o → o < 35 → ((x : ℕ) → x ≢ leaf_word k leaf + o → get_or new x 0 ≡ get_or old x 0) → SameTrie k old new (λ l. Unit {0})
+pub link_set : (k : Shape) (old new : List ℕ) (leaf o : ℕ) → PREVIOUS_PART ≤ o → o < LEAF_WORDS → ((x : ℕ) → x ≢ leaf_word k leaf + o → get_or new x 0 ≡ get_or old x 0) → SameTrie k old new (λ l. Unit {0})
 link_set k old new leaf o l m others = record {
   low = λ x a b. others x (omega arith);
   items = λ x a b. others x (omega arith);

@@ -4,11 +4,12 @@ use Rattle.std.specs.Prelude.{◌==◌}
 use Rattle.std.proofs.lemmas.Bool.{cases_order}
 use Rattle.row_words.specs.declared.shape.Shape.{Shape}
 use Rattle.row_words.specs.declared.rows.ItemRow.{ItemRow}
-use Rattle.row_words.specs.Layout.{item_word, leaf_word}
+use Rattle.row_words.specs.Layout.{item_word, leaf_word, rows_begin}
 use Rattle.row_words.specs.Shape.{IsShape}
 use Rattle.row_words.specs.Bytes.{bytes_from}
 use Rattle.row_words.specs.Decode.{head_at, hash_at, item_at, mark_at}
 use Rattle.row_words.proofs.Packed.{bytes_same}
+use Rattle.row_words.specs.declared.layout.TheConstants.{UPPER, LENGTHS, ANCHOR_MARK}
 use Rattle.key_bytes.specs.Fnv.{prefix_hash}
 use Rattle.meta_trie.specs.Trie.{bucket_of, used_of, free_of, free_after}
 use Rattle.meta_trie.specs.Words.{Put, Linked, SameAnchors, Codes, Written}
@@ -43,7 +44,7 @@ module _ (k : Shape) (ws w1 w2 w3 : List ℕ) (i b hash link sides b0 b1 b2 b3 :
   here : (o : ℕ) → o < 7 → get_or w3 (item_word k i + o) 0 ≡ get_or (hash ∷ link ∷ sides ∷ b0 ∷ b1 ∷ b2 ∷ b3 ∷ []) o 0
   here o l = high (item_word k i + o) (omega arith) ∙ p1.inside o l
 
-  leaf_far : (x : ℕ) → 4 + k.heads + 8 * k.items ≤ x → get_or w3 x 0 ≡ get_or ws x 0
+  leaf_far : (x : ℕ) → rows_begin k ≤ x → get_or w3 x 0 ≡ get_or ws x 0
   leaf_far x l = high x (omega arith) ∙ p1.behind x (omega arith)
 
   anchors_far : SameAnchors k ws w3
@@ -57,7 +58,7 @@ module _ (k : Shape) (ws w1 w2 w3 : List ℕ) (i b hash link sides b0 b1 b2 b3 :
       )
 
   head_far : (c : ℕ) → c ≢ b → c < k.heads → head_at k w3 c ≡ head_at k ws c
-  head_far c ne l = ap (λ (w : ℕ). w % 4294967296) (p3.behind (4 + c) (omega arith) ∙ elim (cases_order c b) [
+  head_far c ne l = ap (λ (w : ℕ). w % UPPER) (p3.behind (4 + c) (omega arith) ∙ elim (cases_order c b) [
     | inl e ↦ absurd (ne e)
     | inr r ↦ elim r [ inl below ↦ p2.before (4 + c) (omega arith) | inr above ↦ p2.behind (4 + c) (omega arith) ]
   ] ∙ p1.before (4 + c) (omega arith))
@@ -67,18 +68,18 @@ module _ (k : Shape) (ws w1 w2 w3 : List ℕ) (i b hash link sides b0 b1 b2 b3 :
       let same : 4 + b ≡ 4 + b + 0 = omega arith in
       let read : get_or w3 (4 + b) 0 ≡ i + 1 = p3.behind (4 + b) (omega arith) ∙ ap (λ (x : ℕ). get_or w2 x 0) same ∙ p2.inside 0 (omega arith) in
       let most = ranges.items.1 in
-      ap (λ (w : ℕ). w % 4294967296) read ∙ omega arith
+      ap (λ (w : ℕ). w % UPPER) read ∙ omega arith
 
   item_here : (name : List ℕ) (row : ItemRow) → bucket_of k name ≡ b → Codes row (head_at k ws b) link sides (b0 ∷ b1 ∷ b2 ∷ b3 ∷ []) → item_at k w3 i ≡ record row { next = head_at k ws (bucket_of k name) }
   item_here name row at codes =
       let e1 = here 1 (omega arith) in let e2 = here 2 (omega arith) in let e3 = here 3 (omega arith) in
       let e4 = here 4 (omega arith) in let e5 = here 5 (omega arith) in let e6 = here 6 (omega arith) in
       let bits : get_or w3 (item_word k i + 3) 0 ∷ get_or w3 (item_word k i + 4) 0 ∷ get_or w3 (item_word k i + 5) 0 ∷ get_or w3 (item_word k i + 6) 0 ∷ [] ≡ row.bits = cc in
-      let next : get_or w3 (item_word k i + 1) 0 % 4294967296 ≡ head_at k ws (bucket_of k name) = ap (λ (w : ℕ). w % 4294967296) e1 ∙ codes.next_is ∙ ap (head_at k ws) (sym at) in
-      let len : get_or w3 (item_word k i + 1) 0 / 4294967296 % 65536 ≡ row.len = ap (λ (w : ℕ). w / 4294967296 % 65536) e1 ∙ codes.len_is in
-      let mark : (get_or w3 (item_word k i + 1) 0 / 281474976710656 % 2 == 1) ≡ row.is_anchor = ap (λ (w : ℕ). w / 281474976710656 % 2 == 1) e1 ∙ codes.mark_is in
-      let first : get_or w3 (item_word k i + 2) 0 % 4294967296 ≡ row.leftmost = ap (λ (w : ℕ). w % 4294967296) e2 ∙ codes.first_is in
-      let last : get_or w3 (item_word k i + 2) 0 / 4294967296 ≡ row.rightmost = ap (λ (w : ℕ). w / 4294967296) e2 ∙ codes.last_is in
+      let next : get_or w3 (item_word k i + 1) 0 % UPPER ≡ head_at k ws (bucket_of k name) = ap (λ (w : ℕ). w % UPPER) e1 ∙ codes.next_is ∙ ap (head_at k ws) (sym at) in
+      let len : get_or w3 (item_word k i + 1) 0 / UPPER % LENGTHS ≡ row.len = ap (λ (w : ℕ). w / UPPER % LENGTHS) e1 ∙ codes.len_is in
+      let mark : (get_or w3 (item_word k i + 1) 0 / ANCHOR_MARK % 2 == 1) ≡ row.is_anchor = ap (λ (w : ℕ). w / ANCHOR_MARK % 2 == 1) e1 ∙ codes.mark_is in
+      let first : get_or w3 (item_word k i + 2) 0 % UPPER ≡ row.leftmost = ap (λ (w : ℕ). w % UPPER) e2 ∙ codes.first_is in
+      let last : get_or w3 (item_word k i + 2) 0 / UPPER ≡ row.rightmost = ap (λ (w : ℕ). w / UPPER) e2 ∙ codes.last_is in
       cc
 
   pub linked_words : (name : List ℕ) (row : ItemRow) → IsShape k → bucket_of k name ≡ b → free_of ws ≡ i + 1 → hash ≡ prefix_hash k.salt name → Codes row (head_at k ws b) link sides (b0 ∷ b1 ∷ b2 ∷ b3 ∷ []) → Linked k ws w3 i name row

@@ -7,8 +7,9 @@ use Rattle.anchor_rules.specs.Anchors.{Anchors, Rises}
 use Rattle.anchor_rules.specs.Items.{first_leaf, longest_anchor}
 use Rattle.anchor_rules.proofs.ItemParts.{all_parts}
 use Rattle.row_words.specs.declared.shape.Shape.{Shape}
-use Rattle.row_words.specs.Layout.{leaf_word}
+use Rattle.row_words.specs.Layout.{leaf_word, rows_begin}
 use Rattle.row_words.specs.Decode.{mark_at, anchor_at}
+use Rattle.row_words.specs.declared.layout.TheConstants.{LEAF_WORDS, PREVIOUS_PART, NEXT_PART, UPPER}
 use Rattle.meta_trie.specs.Stands.{LeafChain, first_link}
 use Rattle.meta_trie.specs.Words.{RowPut, LinkSet, PreviousSet, RowAdded}
 use Rattle.meta_trie.proofs.RowWrites.{other_row, anchor_same}
@@ -21,9 +22,9 @@ link_put k ws leaf o value room = record {
   others = λ x ne. get_or-set_other ws (leaf_word k leaf + o) x value 0 ne;
 }
 
-pub previous_set : (k : Shape) (ws new : List ℕ) (next value : ℕ) → next ≢ 0 → LinkSet k ws new (next - 1) 33 value → PreviousSet k ws new next value
+pub previous_set : (k : Shape) (ws new : List ℕ) (next value : ℕ) → next ≢ 0 → LinkSet k ws new (next - 1) PREVIOUS_PART value → PreviousSet k ws new next value
 previous_set k ws new next value some l = record {
-  here = λ r e. ap (λ (x : ℕ). get_or new (leaf_word k x + 33) 0) (omega (arith, e)) ∙ l.here;
+  here = λ r e. ap (λ (x : ℕ). get_or new (leaf_word k x + PREVIOUS_PART) 0) (omega (arith, e)) ∙ l.here;
   others = λ x far. l.others x (far (next - 1) (omega (arith, some)));
 }
 
@@ -31,9 +32,9 @@ pub previous_none : (k : Shape) (ws : List ℕ) (value : ℕ) → PreviousSet k 
 previous_none k ws value = record { here = λ r e. absurd (omega (arith, e)); others = λ x far. refl }
 
 module _ (k : Shape) (w0 w1 w2 w3 : List ℕ) (left leaf : ℕ) (a : List ℕ) (next : ℕ) (apart : left ≢ leaf) (behind : next ≢ leaf + 1) (most : leaf < 4294967295)
-    (p1 : RowPut k w0 w1 leaf a (left + 1) next) (p2 : LinkSet k w1 w2 left 34 (leaf + 1)) (p3 : PreviousSet k w2 w3 next (leaf + 1)) where
+    (p1 : RowPut k w0 w1 leaf a (left + 1) next) (p2 : LinkSet k w1 w2 left NEXT_PART (leaf + 1)) (p3 : PreviousSet k w2 w3 next (leaf + 1)) where
   -- the row itself stays
-  mine : (o : ℕ) → o < 35 → get_or w3 (leaf_word k leaf + o) 0 ≡ get_or w1 (leaf_word k leaf + o) 0
+  mine : (o : ℕ) → o < LEAF_WORDS → get_or w3 (leaf_word k leaf + o) 0 ≡ get_or w1 (leaf_word k leaf + o) 0
   mine o l =
       p3.others (leaf_word k leaf + o) (λ r e q. let same : r ≡ leaf = omega (arith, q, l) in behind (omega (arith, e, same)))
       ∙ p2.others (leaf_word k leaf + o) (λ q. let same : left ≡ leaf = omega (arith, q, l) in apart same)
@@ -45,13 +46,13 @@ module _ (k : Shape) (w0 w1 w2 w3 : List ℕ) (left leaf : ℕ) (a : List ℕ) (
   row_added = record {
     live = let m = mine_anchor.0 in (p1.live.0, omega (arith, m, p1.live.1), omega (arith, m, p1.live.2));
     anchor_is = mine_anchor.1 ∙ p1.anchor_is;
-    previous_is = ap (λ (w : ℕ). w % 4294967296) (mine 33 (omega arith)) ∙ p1.previous_is;
-    next_is = ap (λ (w : ℕ). w % 4294967296) (mine 34 (omega arith)) ∙ p1.next_is;
-    left_next = ap (λ (w : ℕ). w % 4294967296) (p3.others (leaf_word k left + 34) (λ r e q. omega (arith, q)) ∙ p2.here) ∙ omega (arith, most);
-    next_previous = λ r e. ap (λ (w : ℕ). w % 4294967296) (p3.here r e) ∙ omega (arith, most);
+    previous_is = ap (λ (w : ℕ). w % UPPER) (mine PREVIOUS_PART (omega arith)) ∙ p1.previous_is;
+    next_is = ap (λ (w : ℕ). w % UPPER) (mine NEXT_PART (omega arith)) ∙ p1.next_is;
+    left_next = ap (λ (w : ℕ). w % UPPER) (p3.others (leaf_word k left + NEXT_PART) (λ r e q. omega (arith, q)) ∙ p2.here) ∙ omega (arith, most);
+    next_previous = λ r e. ap (λ (w : ℕ). w % UPPER) (p3.here r e) ∙ omega (arith, most);
     others = λ l o ne ol no34 no33.
-        p3.others (leaf_word k l + o) (λ r e q. let same : r ≡ l = omega (arith, q, ol) in let is : o ≡ 33 = omega (arith, q, same) in no33 (omega (arith, e, same)) is)
-        ∙ p2.others (leaf_word k l + o) (λ q. let same : l ≡ left = omega (arith, q, ol) in let is : o ≡ 34 = omega (arith, q, same) in no34 same is)
+        p3.others (leaf_word k l + o) (λ r e q. let same : r ≡ l = omega (arith, q, ol) in let is : o ≡ PREVIOUS_PART = omega (arith, q, same) in no33 (omega (arith, e, same)) is)
+        ∙ p2.others (leaf_word k l + o) (λ q. let same : l ≡ left = omega (arith, q, ol) in let is : o ≡ NEXT_PART = omega (arith, q, same) in no34 same is)
         ∙ other_row k w0 w1 leaf l ne p1.before p1.behind o ol;
     low = λ x l. p3.others x (λ r e. omega (arith, l)) ∙ p2.others x (omega (arith, l)) ∙ p1.before x (omega (arith, l));
   }
@@ -71,10 +72,10 @@ module _ (k : Shape) (old new : List ℕ) (left leaf : ℕ) (a : List ℕ) (next
   chain_all : (A : Anchors) (previous : ℕ) → AllByRecursion Apart A → LeafChain k old previous A → LeafChain k new previous A
   chain_all [] previous apart c = tt
   chain_all (q ∷ A) previous apart c =
-      let here = λ (o : ℕ) (l : o < 35). add.others q.1 o apart.0.0 l (λ e. absurd (apart.0.1 e)) (λ e. absurd (apart.0.2 e)) in
+      let here = λ (o : ℕ) (l : o < LEAF_WORDS). add.others q.1 o apart.0.0 l (λ e. absurd (apart.0.1 e)) (λ e. absurd (apart.0.2 e)) in
       let row = anchor_same k old new q.1 c.0.2 (λ o l. here o (omega arith)) in
       let m = row.0 in
-      ((c.0.0, omega (arith, m, c.0.1), omega (arith, m, c.0.2)), row.1 ∙ c.1, ap (λ (w : ℕ). w % 4294967296) (here 33 (omega arith)) ∙ c.2, ap (λ (w : ℕ). w % 4294967296) (here 34 (omega arith)) ∙ c.3, chain_all A (q.1 + 1) apart.1 c.4)
+      ((c.0.0, omega (arith, m, c.0.1), omega (arith, m, c.0.2)), row.1 ∙ c.1, ap (λ (w : ℕ). w % UPPER) (here PREVIOUS_PART (omega arith)) ∙ c.2, ap (λ (w : ℕ). w % UPPER) (here NEXT_PART (omega arith)) ∙ c.3, chain_all A (q.1 + 1) apart.1 c.4)
 
   apart_all : (A : Anchors) (x : ℕ) → next ≡ x + 1 → AllByRecursion (λ (q : List ℕ × ℕ). q.1 ≢ leaf) A → AllByRecursion (λ (q : List ℕ × ℕ). q.1 ≢ left) A → AllByRecursion (λ (q : List ℕ × ℕ). q.1 ≢ x) A → AllByRecursion Apart A
   apart_all [] x e f g h = tt
@@ -88,7 +89,7 @@ module _ (k : Shape) (old new : List ℕ) (left leaf : ℕ) (a : List ℕ) (next
         (c.0.0, omega (arith, m, c.0.1), omega (arith, m, c.0.2)),
         row.1 ∙ c.1,
         add.next_previous q.1 e,
-        ap (λ (w : ℕ). w % 4294967296) (add.others q.1 34 f.0 (omega arith) (λ s. absurd (g.0 s)) (λ s. λ t. omega (arith, t))) ∙ c.3,
+        ap (λ (w : ℕ). w % UPPER) (add.others q.1 NEXT_PART f.0 (omega arith) (λ s. absurd (g.0 s)) (λ s. λ t. omega (arith, t))) ∙ c.3,
         chain_all back (q.1 + 1) (apart_all back q.1 e f.1 g.1 (unlisted back q.1 r.1)) c.4,
       )
 
@@ -100,7 +101,7 @@ module _ (k : Shape) (old new : List ℕ) (left leaf : ℕ) (a : List ℕ) (next
       let m = row.0 in (
         (c.0.0, omega (arith, m, c.0.1), omega (arith, m, c.0.2)),
         row.1 ∙ c.1,
-        ap (λ (w : ℕ). w % 4294967296) (add.others left 33 f.0 (omega arith) (λ s. λ t. omega (arith, t)) (λ s. absurd (no33 s))) ∙ c.2,
+        ap (λ (w : ℕ). w % UPPER) (add.others left PREVIOUS_PART f.0 (omega arith) (λ s. λ t. omega (arith, t)) (λ s. absurd (no33 s))) ∙ c.2,
         add.left_next,
         (add.live, add.anchor_is, add.previous_is, add.next_is ∙ e, chain_back back (left + 1) r.2 e f.1 lefts c.4),
       )
@@ -109,26 +110,26 @@ module _ (k : Shape) (old new : List ℕ) (left leaf : ℕ) (a : List ℕ) (next
       let parts = all_parts (λ (x : List ℕ × ℕ). x.1 ≢ q.1) front ((lo, left) ∷ back) rest in
       let no_left : q.1 ≢ left = λ s. parts.1.0 (sym s) in
       let no33 : next ≢ q.1 + 1 = λ s. link_apart back q.1 parts.1.1 (sym e ∙ s) in
-      let here = λ (o : ℕ) (l : o < 35). add.others q.1 o f.0 l (λ s. absurd (no_left s)) (λ s. absurd (no33 s)) in
+      let here = λ (o : ℕ) (l : o < LEAF_WORDS). add.others q.1 o f.0 l (λ s. absurd (no_left s)) (λ s. absurd (no33 s)) in
       let row = anchor_same k old new q.1 c.0.2 (λ o l. here o (omega arith)) in
       let m = row.0 in (
         (c.0.0, omega (arith, m, c.0.1), omega (arith, m, c.0.2)),
         row.1 ∙ c.1,
-        ap (λ (w : ℕ). w % 4294967296) (here 33 (omega arith)) ∙ c.2,
-        ap (λ (w : ℕ). w % 4294967296) (here 34 (omega arith)) ∙ c.3 ∙ first_link-front front (lo, left) back ((a, leaf) ∷ back),
+        ap (λ (w : ℕ). w % UPPER) (here PREVIOUS_PART (omega arith)) ∙ c.2,
+        ap (λ (w : ℕ). w % UPPER) (here NEXT_PART (omega arith)) ∙ c.3 ∙ first_link-front front (lo, left) back ((a, leaf) ∷ back),
         chain_split front lo back (q.1 + 1) r.2 f.1 e c.4,
       )
 
 -- where the words of the leaf rows stay, the list does
-pub chain_rows : (k : Shape) (old new : List ℕ) (A : Anchors) (previous : ℕ) → ((x : ℕ) → 4 + k.heads + 8 * k.items ≤ x → get_or new x 0 ≡ get_or old x 0) → LeafChain k old previous A → LeafChain k new previous A
+pub chain_rows : (k : Shape) (old new : List ℕ) (A : Anchors) (previous : ℕ) → ((x : ℕ) → rows_begin k ≤ x → get_or new x 0 ≡ get_or old x 0) → LeafChain k old previous A → LeafChain k new previous A
 chain_rows k old new [] previous same c = tt
 chain_rows k old new (q ∷ A) previous same c =
     let row = anchor_same k old new q.1 c.0.2 (λ o l. same (leaf_word k q.1 + o) (omega arith)) in
     let m = row.0 in (
       (c.0.0, omega (arith, m, c.0.1), omega (arith, m, c.0.2)),
       row.1 ∙ c.1,
-      ap (λ (w : ℕ). w % 4294967296) (same (leaf_word k q.1 + 33) (omega arith)) ∙ c.2,
-      ap (λ (w : ℕ). w % 4294967296) (same (leaf_word k q.1 + 34) (omega arith)) ∙ c.3,
+      ap (λ (w : ℕ). w % UPPER) (same (leaf_word k q.1 + PREVIOUS_PART) (omega arith)) ∙ c.2,
+      ap (λ (w : ℕ). w % UPPER) (same (leaf_word k q.1 + NEXT_PART) (omega arith)) ∙ c.3,
       chain_rows k old new A (q.1 + 1) same c.4,
     )
 

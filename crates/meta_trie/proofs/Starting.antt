@@ -14,6 +14,7 @@ use Rattle.row_words.specs.Layout.{item_word, leaf_word}
 use Rattle.row_words.specs.Shape.{IsShape}
 use Rattle.row_words.specs.Bytes.{bytes_from}
 use Rattle.row_words.specs.Decode.{mark_at, IsLive}
+use Rattle.row_words.specs.declared.layout.TheConstants.{PREVIOUS_PART, NEXT_PART, UPPER}
 use Rattle.meta_trie.specs.Trie.{Says, bit_of, Among, named_free, free_after, Spare, Unlike, Holds}
 use Rattle.meta_trie.specs.Stands.{StandsFor}
 use Rattle.meta_trie.specs.Words.{Put, Linked, Bare, with_item}
@@ -43,16 +44,16 @@ module _ (k : Shape) (w0 w1 w2 : List ℕ) (ranges : IsShape k) (z : (x : ℕ) �
   pub bare_words : Bare k w2
   bare_words = let some = ranges.items.0 in record {
     ranges = ranges;
-    heads = λ b l. ap (λ (w : ℕ). w % 4294967296) (high (4 + b) (omega arith) (omega arith));
-    links = λ j l. ap (λ (w : ℕ). w % 4294967296) (high (item_word k j + 1) (omega arith) (omega arith));
+    heads = λ b l. ap (λ (w : ℕ). w % UPPER) (high (4 + b) (omega arith) (omega arith));
+    links = λ j l. ap (λ (w : ℕ). w % UPPER) (high (item_word k j + 1) (omega arith) (omega arith));
     longest = header 0 (omega arith);
     used = header 1 (omega arith);
     free = header 2 (omega arith);
     live = header 3 (omega arith);
     mark = ap (λ (x : ℕ). get_or w2 x 0) (omega arith) ∙ p2.inside 0 (omega arith);
     marks = λ leaf l. rows (leaf_word k leaf) (omega arith);
-    previous = ap (λ (w : ℕ). w % 4294967296) (rows (leaf_word k 0 + 33) (omega arith));
-    next = ap (λ (w : ℕ). w % 4294967296) (rows (leaf_word k 0 + 34) (omega arith));
+    previous = ap (λ (w : ℕ). w % UPPER) (rows (leaf_word k 0 + PREVIOUS_PART) (omega arith));
+    next = ap (λ (w : ℕ). w % UPPER) (rows (leaf_word k 0 + NEXT_PART) (omega arith));
   }
 
 -- no place has an owner
@@ -151,8 +152,8 @@ started k old new i row b l is =
       chained = (
         (omega arith, omega (arith, mark), omega (arith, mark)),
         ap (λ (n : ℕ). bytes_from new (leaf_word k 0 + 1) (n - 1)) mark,
-        ap (λ (w : ℕ). w % 4294967296) (l.rest.rows (leaf_word k 0 + 33) (omega arith)) ∙ b.previous,
-        ap (λ (w : ℕ). w % 4294967296) (l.rest.rows (leaf_word k 0 + 34) (omega arith)) ∙ b.next,
+        ap (λ (w : ℕ). w % UPPER) (l.rest.rows (leaf_word k 0 + PREVIOUS_PART) (omega arith)) ∙ b.previous,
+        ap (λ (w : ℕ). w % UPPER) (l.rest.rows (leaf_word k 0 + NEXT_PART) (omega arith)) ∙ b.next,
         tt,
       );
       dead = λ leaf m none. elim leaf as (λ (x : ℕ). has_leaf (([], 0) ∷ []) x ≡ false → mark_at k new x ≡ 0) [

@@ -4,15 +4,16 @@ use Rattle.std.specs.Prelude.{◌==◌}
 use Rattle.std.proofs.lemmas.Bool.{cases_order}
 use Rattle.row_words.specs.declared.shape.Shape.{Shape}
 use Rattle.row_words.specs.declared.rows.ItemRow.{ItemRow}
-use Rattle.row_words.specs.Layout.{item_word, leaf_word}
+use Rattle.row_words.specs.Layout.{item_word, leaf_word, rows_begin}
 use Rattle.row_words.specs.Bytes.{bytes_from}
 use Rattle.row_words.specs.Decode.{hash_at, item_at, mark_at}
 use Rattle.row_words.proofs.Packed.{bytes_same}
+use Rattle.row_words.specs.declared.layout.TheConstants.{UPPER, LENGTHS, ANCHOR_MARK}
 use Rattle.meta_trie.specs.Words.{Put, Changed, SameAnchors, Codes}
 use Rattle.meta_trie.proofs.Segments.{same_item}
 
 -- where the words of the leaf rows stay, the anchors do
-pub anchors_same : (k : Shape) (old new : List ℕ) → ((x : ℕ) → 4 + k.heads + 8 * k.items ≤ x → get_or new x 0 ≡ get_or old x 0) → SameAnchors k old new
+pub anchors_same : (k : Shape) (old new : List ℕ) → ((x : ℕ) → rows_begin k ≤ x → get_or new x 0 ≡ get_or old x 0) → SameAnchors k old new
 anchors_same k old new same leaf live =
     let m : mark_at k new leaf ≡ mark_at k old leaf = same (leaf_word k leaf) (omega arith) in (
       m,
@@ -44,14 +45,14 @@ module _ (k : Shape) (ws w : List ℕ) (i link sides b0 b1 b2 b3 : ℕ) (lt : i 
       let e3 : get_or w (item_word k i + 3) 0 ≡ b0 = here 2 (omega arith) in let e4 : get_or w (item_word k i + 4) 0 ≡ b1 = here 3 (omega arith) in
       let e5 : get_or w (item_word k i + 5) 0 ≡ b2 = here 4 (omega arith) in let e6 : get_or w (item_word k i + 6) 0 ≡ b3 = here 5 (omega arith) in
       let bits : get_or w (item_word k i + 3) 0 ∷ get_or w (item_word k i + 4) 0 ∷ get_or w (item_word k i + 5) 0 ∷ get_or w (item_word k i + 6) 0 ∷ [] ≡ row.bits = cc in
-      let next : get_or w (item_word k i + 1) 0 % 4294967296 ≡ (item_at k ws i).next = ap (λ (w : ℕ). w % 4294967296) e1 ∙ codes.next_is in
-      let len : get_or w (item_word k i + 1) 0 / 4294967296 % 65536 ≡ row.len = ap (λ (w : ℕ). w / 4294967296 % 65536) e1 ∙ codes.len_is in
-      let mark : (get_or w (item_word k i + 1) 0 / 281474976710656 % 2 == 1) ≡ row.is_anchor = ap (λ (w : ℕ). w / 281474976710656 % 2 == 1) e1 ∙ codes.mark_is in
-      let first : get_or w (item_word k i + 2) 0 % 4294967296 ≡ row.leftmost = ap (λ (w : ℕ). w % 4294967296) e2 ∙ codes.first_is in
-      let last : get_or w (item_word k i + 2) 0 / 4294967296 ≡ row.rightmost = ap (λ (w : ℕ). w / 4294967296) e2 ∙ codes.last_is in
+      let next : get_or w (item_word k i + 1) 0 % UPPER ≡ (item_at k ws i).next = ap (λ (w : ℕ). w % UPPER) e1 ∙ codes.next_is in
+      let len : get_or w (item_word k i + 1) 0 / UPPER % LENGTHS ≡ row.len = ap (λ (w : ℕ). w / UPPER % LENGTHS) e1 ∙ codes.len_is in
+      let mark : (get_or w (item_word k i + 1) 0 / ANCHOR_MARK % 2 == 1) ≡ row.is_anchor = ap (λ (w : ℕ). w / ANCHOR_MARK % 2 == 1) e1 ∙ codes.mark_is in
+      let first : get_or w (item_word k i + 2) 0 % UPPER ≡ row.leftmost = ap (λ (w : ℕ). w % UPPER) e2 ∙ codes.first_is in
+      let last : get_or w (item_word k i + 2) 0 / UPPER ≡ row.rightmost = ap (λ (w : ℕ). w / UPPER) e2 ∙ codes.last_is in
       cc
 
-  rows_far : (x : ℕ) → 4 + k.heads + 8 * k.items ≤ x → get_or w x 0 ≡ get_or ws x 0
+  rows_far : (x : ℕ) → rows_begin k ≤ x → get_or w x 0 ≡ get_or ws x 0
   rows_far x l = p.behind x (omega arith)
 
   pub changed_words : (row : ItemRow) → Codes row (item_at k ws i).next link sides (b0 ∷ b1 ∷ b2 ∷ b3 ∷ []) → Changed k ws w i row
@@ -59,7 +60,7 @@ module _ (k : Shape) (ws w : List ℕ) (i link sides b0 b1 b2 b3 : ℕ) (lt : i 
     item = item_here row codes;
     hash = p.before (item_word k i) (omega arith);
     items = λ j ne l. record { item = same_item k w ws j (λ o a b. far j o ne (omega arith)); hash = far_hash j ne };
-    heads = λ c l. ap (λ (w : ℕ). w % 4294967296) (p.before (4 + c) (omega arith));
+    heads = λ c l. ap (λ (w : ℕ). w % UPPER) (p.before (4 + c) (omega arith));
     anchors = anchors_same k ws w rows_far;
     rest = record { rows = rows_far; longest = p.before 0 (omega arith); live = p.before 3 (omega arith) };
     used = p.before 1 (omega arith);

@@ -7,6 +7,7 @@ use Rattle.anchor_rules.specs.Anchors.{Anchors, is_before, span, Rises, with_spl
 use Rattle.anchor_rules.specs.Items.{Item, begins, item, shared}
 use Rattle.row_words.specs.declared.shape.Shape.{Shape}
 use Rattle.row_words.specs.Decode.{anchor_at, IsLive}
+use Rattle.row_words.specs.declared.layout.TheConstants.{LONGEST_ANCHOR}
 use Rattle.meta_trie.specs.Trie.{Holds, used_of}
 use Rattle.meta_trie.specs.Stands.{prefix_count}
 
@@ -20,7 +21,7 @@ pub record Grows (A : Anchors) (left : ℕ) (lo : List ℕ) (hi : Option (List �
   pub at : span A left ≡ Some (lo, hi)
   pub above : is_below lo a ≡ true
   pub before : is_before hi a ≡ true
-  pub short : length a < 256
+  pub short : length a < LONGEST_ANCHOR + 1
   pub bytes : AreBytes a
 
 -- the item of a prefix p of a, which is an anchor now: its first leaf and its last one are kept, or are that of a

@@ -5,8 +5,9 @@ use Rattle.key_bytes.specs.Order.{is_same}
 use Rattle.anchor_rules.specs.Anchors.{Anchors, AreAnchors, span, has_leaf, with_merge}
 use Rattle.anchor_rules.specs.Items.{Item, begins, leaf_after, shared}
 use Rattle.row_words.specs.declared.shape.Shape.{Shape}
-use Rattle.row_words.specs.Layout.{longest_word, live_word, leaf_word}
+use Rattle.row_words.specs.Layout.{leaf_word, rows_begin}
 use Rattle.row_words.specs.Decode.{mark_at, anchor_at, previous_at, next_at, IsLive}
+use Rattle.row_words.specs.declared.layout.TheConstants.{LONGEST_ANCHOR, HEADER_WORDS, LONGEST_WORD, LIVE_WORD, LEAF_WORDS, MARK_PART, PREVIOUS_PART, NEXT_PART}
 use Rattle.meta_trie.specs.Trie.{Holds, used_of}
 use Rattle.meta_trie.specs.Stands.{StandsFor, prefix_count}
 use Rattle.meta_trie.specs.Grows.{mixed, back_count}
@@ -21,7 +22,7 @@ pub record Shrinks (A : Anchors) (leaf : ℕ) (lo a : List ℕ) (hi : Option (Li
   pub are : AreAnchors A
   pub at : span A left ≡ Some (lo, Some a)
   pub gone : span A leaf ≡ Some (a, hi)
-  pub short : length a < 256
+  pub short : length a < LONGEST_ANCHOR + 1
   pub after_is : after ≡ leaf_after A leaf
   pub front_is : front ≡ lcp lo a + 1
   pub back_is : back ≡ back_count a hi
@@ -53,8 +54,8 @@ pub record RowCut (k : Shape) (old new : List ℕ) (left leaf next : ℕ) : Type
   pub dead : mark_at k new leaf ≡ 0
   pub left_next : next_at k new left ≡ next
   pub next_previous : (r : ℕ) → next ≡ r + 1 → previous_at k new r ≡ left + 1
-  pub others : (l o : ℕ) → o < 35 → (l ≡ leaf → o ≢ 0) → (l ≡ left → o ≢ 34) → (next ≡ l + 1 → o ≢ 33) → slice_index new (leaf_word k l + o) ≡ slice_index old (leaf_word k l + o)
-  pub low : (x : ℕ) → x < 4 + k.heads + 8 * k.items → slice_index new x ≡ slice_index old x
+  pub others : (l o : ℕ) → o < LEAF_WORDS → (l ≡ leaf → o ≢ MARK_PART) → (l ≡ left → o ≢ NEXT_PART) → (next ≡ l + 1 → o ≢ PREVIOUS_PART) → slice_index new (leaf_word k l + o) ≡ slice_index old (leaf_word k l + o)
+  pub low : (x : ℕ) → x < rows_begin k → slice_index new x ≡ slice_index old x
 
 -- no row's mark is above this one, and some row has it, if it is above 1
 pub record IsTopMark (k : Shape) (ws : List ℕ) (top : ℕ) : Type 0 where
@@ -64,16 +65,16 @@ pub record IsTopMark (k : Shape) (ws : List ℕ) (top : ℕ) : Type 0 where
 
 -- where the longest anchor had this length, its length is that by the marks now
 pub record LongestSet (k : Shape) (old new : List ℕ) (len : ℕ) : Type 0 where
-  pub kept : slice_index old longest_word ≢ len → slice_index new longest_word ≡ slice_index old longest_word
-  pub found : slice_index old longest_word ≡ len → IsTopMark k old (slice_index new longest_word + 1)
-  pub others : (x : ℕ) → x ≢ 0 → slice_index new x ≡ slice_index old x
+  pub kept : slice_index old LONGEST_WORD ≢ len → slice_index new LONGEST_WORD ≡ slice_index old LONGEST_WORD
+  pub found : slice_index old LONGEST_WORD ≡ len → IsTopMark k old (slice_index new LONGEST_WORD + 1)
+  pub others : (x : ℕ) → x ≢ LONGEST_WORD → slice_index new x ≡ slice_index old x
 
 -- the row of a leaf was taken out, and the header doesn't count it any more
 pub record RowDropped (k : Shape) (old new : List ℕ) (left leaf next len : ℕ) : Type 0 where
   pub between : List ℕ
   pub cut : RowCut k old between left leaf next
-  pub kept : slice_index between longest_word ≢ len → slice_index new longest_word ≡ slice_index between longest_word
-  pub found : slice_index between longest_word ≡ len → IsTopMark k between (slice_index new longest_word + 1)
-  pub live : slice_index new live_word + 1 ≡ slice_index between live_word
-  pub low : (x : ℕ) → 0 < x → x < 3 → slice_index new x ≡ slice_index between x
-  pub high : (x : ℕ) → 4 ≤ x → slice_index new x ≡ slice_index between x
+  pub kept : slice_index between LONGEST_WORD ≢ len → slice_index new LONGEST_WORD ≡ slice_index between LONGEST_WORD
+  pub found : slice_index between LONGEST_WORD ≡ len → IsTopMark k between (slice_index new LONGEST_WORD + 1)
+  pub live : slice_index new LIVE_WORD + 1 ≡ slice_index between LIVE_WORD
+  pub low : (x : ℕ) → LONGEST_WORD < x → x < LIVE_WORD → slice_index new x ≡ slice_index between x
+  pub high : (x : ℕ) → HEADER_WORDS ≤ x → slice_index new x ≡ slice_index between x

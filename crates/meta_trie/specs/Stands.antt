@@ -9,8 +9,8 @@ use Rattle.anchor_rules.specs.Items.{item, is_prefix, first_leaf, longest_anchor
 use Rattle.map_model.specs.declared.refusal.TableFull.{TableFull}
 use Rattle.map_model.specs.declared.refusal.TableFull.TheVariants.{Leaves, Items, Versions}
 use Rattle.row_words.specs.declared.shape.Shape.{Shape}
-use Rattle.row_words.specs.Layout.{longest_word, live_word}
 use Rattle.row_words.specs.Decode.{mark_at, anchor_at, previous_at, next_at, IsLive}
+use Rattle.row_words.specs.declared.layout.TheConstants.{LONGEST_ANCHOR, LONGEST_WORD, LIVE_WORD}
 use Rattle.meta_trie.specs.Trie.{Holds, bucket_of, used_of}
 
 -- the link to the first of the leaves
@@ -39,14 +39,14 @@ prefix_count A = 1 + fresh_count [] A
 pub record StandsFor (k : Shape) (ws : List ℕ) (A : Anchors) : Type 0 where
   pub anchors : AreAnchors A
   pub zero : first_leaf A ≡ 0
-  pub keys : AllByRecursion (λ (q : List ℕ × ℕ). (length q.0 < 256) × AreBytes q.0 × (q.1 < k.leaves)) A
+  pub keys : AllByRecursion (λ (q : List ℕ × ℕ). (length q.0 < LONGEST_ANCHOR + 1) × AreBytes q.0 × (q.1 < k.leaves)) A
   pub chained : LeafChain k ws 0 A
   pub dead : (leaf : ℕ) → leaf < k.leaves → has_leaf A leaf ≡ false → mark_at k ws leaf ≡ 0
   pub trie : Holds k ws (item A)
   pub root : trie.owner 0 ≡ Some []
-  pub longest : slice_index ws longest_word ≡ longest_anchor A
+  pub longest : slice_index ws LONGEST_WORD ≡ longest_anchor A
   pub used : used_of ws ≡ prefix_count A
-  pub live : slice_index ws live_word ≡ length A
+  pub live : slice_index ws LIVE_WORD ≡ length A
 
 -- they stand for some anchors
 abbrev pub IsTable : Shape → List ℕ → Type 0

@@ -5,9 +5,9 @@ use Rattle.key_bytes.specs.Fnv.{prefix_hash}
 use Rattle.anchor_rules.specs.Items.{Item}
 use Rattle.row_words.specs.declared.shape.Shape.{Shape}
 use Rattle.row_words.specs.declared.rows.ItemRow.{ItemRow}
-use Rattle.row_words.specs.Layout.{used_word, free_word}
 use Rattle.row_words.specs.Shape.{IsShape}
 use Rattle.row_words.specs.Decode.{head_at, hash_at, item_at, anchor_at, IsLive}
+use Rattle.row_words.specs.declared.layout.TheConstants.{USED_WORD, FREE_WORD}
 use Rattle.meta_trie.specs.declared.finds.Found.{Found}
 
 -- whether byte c is in a bitmap
@@ -88,10 +88,10 @@ Among i (j ∷ js) = (j ≡ i) ⊎ Among i js
 
 -- the header's numbers of the used items and of the first free item
 abbrev pub used_of : List ℕ → ℕ
-used_of ws = slice_index ws used_word
+used_of ws = slice_index ws USED_WORD
 
 abbrev pub free_of : List ℕ → ℕ
-free_of ws = slice_index ws free_word
+free_of ws = slice_index ws FREE_WORD
 
 -- The heads and items hold just this map: each bucket is a chain of the items of its prefixes, and each other item
 -- stands once in the free list. The owner of a place is the prefix whose item stands there.

@@ -5,9 +5,10 @@ use Rattle.key_bytes.specs.Order.{is_same}
 use Rattle.anchor_rules.specs.Items.{Item}
 use Rattle.row_words.specs.declared.shape.Shape.{Shape}
 use Rattle.row_words.specs.declared.rows.ItemRow.{ItemRow}
-use Rattle.row_words.specs.Layout.{longest_word, live_word, item_word, head_word, leaf_word}
+use Rattle.row_words.specs.Layout.{item_word, head_word, leaf_word, rows_begin}
 use Rattle.row_words.specs.Shape.{IsShape}
 use Rattle.row_words.specs.Decode.{head_at, hash_at, item_at, mark_at, anchor_at, previous_at, next_at, IsLive}
+use Rattle.row_words.specs.declared.layout.TheConstants.{ANCHOR_WORDS, HEADER_WORDS, LONGEST_WORD, USED_WORD, LIVE_WORD, LINK_PART, LEAF_WORDS, MARK_PART, BYTES_PART, PREVIOUS_PART, NEXT_PART, UPPER, LENGTHS, ANCHOR_MARK}
 use Rattle.meta_trie.specs.Trie.{bucket_of, used_of, free_of, free_after}
 
 -- the words from a place on are these, and the others stay
@@ -22,9 +23,9 @@ SameAnchors k old new = (leaf : ℕ) → IsLive k old leaf → (mark_at k new le
 
 -- the words of the leaf rows stay, and of the header the length of the longest anchor and the number of live leaves
 pub record SameRest (k : Shape) (old new : List ℕ) : Type 0 where
-  pub rows : (x : ℕ) → 4 + k.heads + 8 * k.items ≤ x → slice_index new x ≡ slice_index old x
-  pub longest : slice_index new longest_word ≡ slice_index old longest_word
-  pub live : slice_index new live_word ≡ slice_index old live_word
+  pub rows : (x : ℕ) → rows_begin k ≤ x → slice_index new x ≡ slice_index old x
+  pub longest : slice_index new LONGEST_WORD ≡ slice_index old LONGEST_WORD
+  pub live : slice_index new LIVE_WORD ≡ slice_index old LIVE_WORD
 
 -- an item stays
 pub record SameItem (k : Shape) (old new : List ℕ) (i : ℕ) : Type 0 where
@@ -77,11 +78,11 @@ without_item known name p = if is_same p name then None else known p
 
 -- what the words of an item decode to
 pub record Codes (row : ItemRow) (next link sides : ℕ) (bits : List ℕ) : Type 0 where
-  pub next_is : link % 4294967296 ≡ next
-  pub len_is : link / 4294967296 % 65536 ≡ row.len
-  pub mark_is : (link / 281474976710656 % 2 == 1) ≡ row.is_anchor
-  pub first_is : sides % 4294967296 ≡ row.leftmost
-  pub last_is : sides / 4294967296 ≡ row.rightmost
+  pub next_is : link % UPPER ≡ next
+  pub len_is : link / UPPER % LENGTHS ≡ row.len
+  pub mark_is : (link / ANCHOR_MARK % 2 == 1) ≡ row.is_anchor
+  pub first_is : sides % UPPER ≡ row.leftmost
+  pub last_is : sides / UPPER ≡ row.rightmost
   pub bits_are : bits ≡ row.bits
 
 -- an item, its bucket's head and the two header words of the items were written, one after the other
@@ -96,7 +97,7 @@ pub record Written (k : Shape) (old new : List ℕ) (i b hash next used free : �
   pub b3 : ℕ
   pub first : Put old w1 (item_word k i) (hash ∷ link ∷ sides ∷ b0 ∷ b1 ∷ b2 ∷ b3 ∷ [])
   pub second : Put w1 w2 (head_word k b) ((i + 1) ∷ [])
-  pub third : Put w2 new 1 (used ∷ free ∷ [])
+  pub third : Put w2 new USED_WORD (used ∷ free ∷ [])
   pub codes : Codes row next link sides (b0 ∷ b1 ∷ b2 ∷ b3 ∷ [])
 
 -- no item is used, and leaf 0 is the only live one, with the empty anchor
@@ -104,10 +105,10 @@ pub record Bare (k : Shape) (ws : List ℕ) : Type 0 where
   pub ranges : IsShape k
   pub heads : (b : ℕ) → b < k.heads → head_at k ws b ≡ 0
   pub links : (j : ℕ) → j < k.items → (item_at k ws j).next ≡ 0
-  pub longest : slice_index ws longest_word ≡ 0
+  pub longest : slice_index ws LONGEST_WORD ≡ 0
   pub used : used_of ws ≡ 0
   pub free : free_of ws ≡ 1
-  pub live : slice_index ws live_word ≡ 1
+  pub live : slice_index ws LIVE_WORD ≡ 1
   pub mark : mark_at k ws 0 ≡ 1
   pub marks : (leaf : ℕ) → 0 < leaf → mark_at k ws leaf ≡ 0
   pub previous : previous_at k ws 0 ≡ 0
@@ -116,7 +117,7 @@ pub record Bare (k : Shape) (ws : List ℕ) : Type 0 where
 -- the item at a place has another link, and all other words stay
 pub record NextSet (k : Shape) (old new : List ℕ) (i next : ℕ) : Type 0 where
   pub item : item_at k new i ≡ record (item_at k old i) { next = next }
-  pub others : (x : ℕ) → x ≢ item_word k i + 1 → slice_index new x ≡ slice_index old x
+  pub others : (x : ℕ) → x ≢ item_word k i + LINK_PART → slice_index new x ≡ slice_index old x
 
 -- a link was set: that of the item before, or the head of the bucket where there is none
 pub record Relinked (k : Shape) (old new : List ℕ) (before bucket next : ℕ) : Type 0 where
@@ -124,8 +125,8 @@ pub record Relinked (k : Shape) (old new : List ℕ) (before bucket next : ℕ) 
   pub hashes : (j : ℕ) → j < k.items → hash_at k new j ≡ hash_at k old j
   pub head : head_at k new bucket ≡ (if before == 0 then next else head_at k old bucket)
   pub heads : (b : ℕ) → b ≢ bucket → b < k.heads → head_at k new b ≡ head_at k old b
-  pub header : (x : ℕ) → x < 4 → slice_index new x ≡ slice_index old x
-  pub rows : (x : ℕ) → 4 + k.heads + 8 * k.items ≤ x → slice_index new x ≡ slice_index old x
+  pub header : (x : ℕ) → x < HEADER_WORDS → slice_index new x ≡ slice_index old x
+  pub rows : (x : ℕ) → rows_begin k ≤ x → slice_index new x ≡ slice_index old x
 
 -- the row of a leaf was written, and all other words stay
 pub record RowPut (k : Shape) (old new : List ℕ) (leaf : ℕ) (anchor : List ℕ) (previous next : ℕ) : Type 0 where
@@ -134,14 +135,14 @@ pub record RowPut (k : Shape) (old new : List ℕ) (leaf : ℕ) (anchor : List �
   pub previous_is : previous_at k new leaf ≡ previous
   pub next_is : next_at k new leaf ≡ next
   pub before : (x : ℕ) → x < leaf_word k leaf → slice_index new x ≡ slice_index old x
-  pub behind : (x : ℕ) → leaf_word k leaf + 35 ≤ x → slice_index new x ≡ slice_index old x
+  pub behind : (x : ℕ) → leaf_word k leaf + LEAF_WORDS ≤ x → slice_index new x ≡ slice_index old x
 
 -- the words of the row of a leaf
 pub record RowWords (values : List ℕ) (anchor : List ℕ) (previous next : ℕ) : Type 0 where
-  pub mark : slice_index values 0 ≡ length anchor + 1
-  pub bytes : (i : ℕ) → i < 32 → (j : ℕ) → j < 8 → slice_index values (i + 1) / 2 ^ (8 * j) % 256 ≡ slice_index anchor (8 * i + j)
-  pub previous_is : slice_index values 33 ≡ previous
-  pub next_is : slice_index values 34 ≡ next
+  pub mark : slice_index values MARK_PART ≡ length anchor + 1
+  pub bytes : (i : ℕ) → i < ANCHOR_WORDS → (j : ℕ) → j < 8 → slice_index values (i + BYTES_PART) / 2 ^ (8 * j) % 256 ≡ slice_index anchor (8 * i + j)
+  pub previous_is : slice_index values PREVIOUS_PART ≡ previous
+  pub next_is : slice_index values NEXT_PART ≡ next
 
 -- one word of a leaf's row was set
 pub record LinkSet (k : Shape) (old new : List ℕ) (leaf o value : ℕ) : Type 0 where
@@ -150,8 +151,8 @@ pub record LinkSet (k : Shape) (old new : List ℕ) (leaf o value : ℕ) : Type 
 
 -- the link back was set in the row that this link names, if it names one
 pub record PreviousSet (k : Shape) (old new : List ℕ) (next value : ℕ) : Type 0 where
-  pub here : (r : ℕ) → next ≡ r + 1 → slice_index new (leaf_word k r + 33) ≡ value
-  pub others : (x : ℕ) → ((r : ℕ) → next ≡ r + 1 → x ≢ leaf_word k r + 33) → slice_index new x ≡ slice_index old x
+  pub here : (r : ℕ) → next ≡ r + 1 → slice_index new (leaf_word k r + PREVIOUS_PART) ≡ value
+  pub others : (x : ℕ) → ((r : ℕ) → next ≡ r + 1 → x ≢ leaf_word k r + PREVIOUS_PART) → slice_index new x ≡ slice_index old x
 
 -- a row was written behind another one, with the links of its neighbours
 pub record RowAdded (k : Shape) (old new : List ℕ) (left leaf : ℕ) (a : List ℕ) (next : ℕ) : Type 0 where
@@ -161,14 +162,14 @@ pub record RowAdded (k : Shape) (old new : List ℕ) (left leaf : ℕ) (a : List
   pub next_is : next_at k new leaf ≡ next
   pub left_next : next_at k new left ≡ leaf + 1
   pub next_previous : (r : ℕ) → next ≡ r + 1 → previous_at k new r ≡ leaf + 1
-  pub others : (l o : ℕ) → l ≢ leaf → o < 35 → (l ≡ left → o ≢ 34) → (next ≡ l + 1 → o ≢ 33) → slice_index new (leaf_word k l + o) ≡ slice_index old (leaf_word k l + o)
-  pub low : (x : ℕ) → x < 4 + k.heads + 8 * k.items → slice_index new x ≡ slice_index old x
+  pub others : (l o : ℕ) → l ≢ leaf → o < LEAF_WORDS → (l ≡ left → o ≢ NEXT_PART) → (next ≡ l + 1 → o ≢ PREVIOUS_PART) → slice_index new (leaf_word k l + o) ≡ slice_index old (leaf_word k l + o)
+  pub low : (x : ℕ) → x < rows_begin k → slice_index new x ≡ slice_index old x
 
 -- the row of a new leaf was put in, and the header counts it
 pub record RowLaid (k : Shape) (old new : List ℕ) (left leaf : ℕ) (a : List ℕ) (next : ℕ) : Type 0 where
   pub between : List ℕ
   pub added : RowAdded k old between left leaf a next
-  pub longest : slice_index new longest_word ≡ max (length a) (slice_index old longest_word)
-  pub live : slice_index new live_word ≡ slice_index old live_word + 1
-  pub low : (x : ℕ) → 0 < x → x < 3 → slice_index new x ≡ slice_index between x
-  pub high : (x : ℕ) → 4 ≤ x → slice_index new x ≡ slice_index between x
+  pub longest : slice_index new LONGEST_WORD ≡ max (length a) (slice_index old LONGEST_WORD)
+  pub live : slice_index new LIVE_WORD ≡ slice_index old LIVE_WORD + 1
+  pub low : (x : ℕ) → LONGEST_WORD < x → x < LIVE_WORD → slice_index new x ≡ slice_index between x
+  pub high : (x : ℕ) → HEADER_WORDS ≤ x → slice_index new x ≡ slice_index between x

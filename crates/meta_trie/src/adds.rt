@@ -1,6 +1,6 @@
 //! Adding an anchor.
 
-ghost use Rattle.std.specs.Prelude.{◌≡◌, ◌≢◌, ◌<◌, ◌≤◌, ◌+◌, ◌-◌, ◌*◌, ◌%◌, ℕ, List, Option, Some, true, length, max, OnOk, OnErr, IfErr, slice_index};
+ghost use Rattle.std.specs.Prelude.{◌≡◌, ◌≢◌, ◌<◌, ◌≤◌, ◌+◌, ◌-◌, ℕ, List, Option, Some, true, length, max, OnOk, OnErr, IfErr, slice_index};
 ghost use Rattle.key_bytes.specs.Common.{lcp};
 ghost use Rattle.key_bytes.specs.Lengths.{IsKey};
 ghost use Rattle.anchor_rules.specs.Anchors.{Anchors, span, splits, with_split};
@@ -13,6 +13,7 @@ use crate::grows::grow;
 use crate::leaf_rows::add_row;
 use key_bytes::Key;
 use map_model::TableFull;
+use row_words::layout::{LIVE_WORD, LONGEST_ANCHOR, LONGEST_WORD, UPPER, USED_WORD};
 use row_words::{AnchorWords, Rows, RowsMut};
 use std::marker::Brand;
 use std::sync::ledger::{Blank, Ledger};
@@ -116,7 +117,7 @@ fn free_count<R: RowsMut>(rows: &mut R) -> u32
     ensures stays { R.stays rows.old rows.new }
 {
     let items = rows.layout().items;
-    items - rows.word(1) as u32
+    items - rows.word(USED_WORD) as u32
 }
 
 /// Puts the row of a new leaf in, and counts it in the header.
@@ -124,19 +125,19 @@ fn lay_row<R: RowsMut>(rows: &mut R, left: u32, anchor: &[u8], leaf: u32, next: 
     requires left { left < (R.shape rows.old).leaves }
     requires leaf { leaf < (R.shape rows.old).leaves }
     requires next { next ≤ (R.shape rows.old).leaves }
-    requires short { length anchor.now < 256 }
+    requires short { length anchor.now < LONGEST_ANCHOR + 1 }
     requires apart { left ≢ leaf }
     requires behind { next ≢ leaf + 1 }
-    requires few { slice_index (R.words rows.old) 3 < 4294967296 }
+    requires few { slice_index (R.words rows.old) LIVE_WORD < UPPER }
     ensures words { RowLaid (R.shape rows.old) (R.words rows.old) (R.words rows.new) left leaf anchor.now next }
     ensures shape { R.shape rows.new ≡ R.shape rows.old }
     ensures stays { R.stays rows.old rows.new }
 {
-    let longest = rows.word(0);
-    let live = rows.word(3);
+    let longest = rows.word(LONGEST_WORD);
+    let live = rows.word(LIVE_WORD);
     add_row(rows, left, anchor, leaf, next);
-    rows.set_word(0, longest.max(anchor.len() as u64));
-    rows.set_word(3, live + 1);
+    rows.set_word(LONGEST_WORD, longest.max(anchor.len() as u64));
+    rows.set_word(LIVE_WORD, live + 1);
 }
 
 /// Adds an anchor for which there is room.

@@ -1,6 +1,6 @@
 //! The table of a whole list of anchors.
 
-ghost use Rattle.std.specs.Prelude.{◌≡◌, ◌<◌, ◌≤◌, ◌+◌, ◌∷◌, [], ℕ, true, false, length, take, OnOk, OnErr, IfErr};
+ghost use Rattle.std.specs.Prelude.{◌≡◌, ◌<◌, ◌≤◌, ◌+◌, ◌∷◌, [], true, false, length, take, OnOk, OnErr, IfErr};
 ghost use Rattle.anchor_rules.specs.Anchors.{AreAnchors, AreShort};
 ghost use Rattle.anchor_rules.specs.Items.{first_leaf};
 ghost use Rattle.meta_trie.specs.Stands.{StandsFor, prefix_count};

@@ -1,18 +1,19 @@
 //! Writing an item anew.
 
-ghost use Rattle.std.specs.Prelude.{◌≡◌, ◌<◌, ◌+◌, ◌*◌, ◌%◌};
+ghost use Rattle.std.specs.Prelude.{◌≡◌, ◌<◌, ◌+◌};
 ghost use Rattle.row_words.specs.Decode.{item_at};
 ghost use Rattle.meta_trie.specs.Words.{Changed};
 
 use crate::links::{pack_link, pack_sides};
 use crate::puts::put;
+use row_words::layout::{LENGTHS, LINK_PART};
 use row_words::{ItemRow, RowsMut};
 
 /// Writes an item anew behind its hash. The row's link is the one that stands there.
 pub(crate) fn change_item<R: RowsMut>(rows: &mut R, at: u32, item: &ItemRow)
     requires at { at < (R.shape rows.old).items }
     requires next { item.now.next ≡ (item_at (R.shape rows.old) (R.words rows.old) at).next }
-    requires len { item.now.len < 65536 }
+    requires len { item.now.len < LENGTHS }
     ensures words { Changed (R.shape rows.old) (R.words rows.old) (R.words rows.new) at item.now }
     ensures shape { R.shape rows.new ≡ R.shape rows.old }
     ensures stays { R.stays rows.old rows.new }
@@ -28,5 +29,5 @@ pub(crate) fn change_item<R: RowsMut>(rows: &mut R, at: u32, item: &ItemRow)
         item.bits[2],
         item.bits[3],
     ];
-    put(rows, base + 1, &values);
+    put(rows, base + LINK_PART, &values);
 }

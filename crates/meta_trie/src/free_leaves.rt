@@ -6,6 +6,7 @@ ghost use Rattle.meta_trie.specs.Stands.{StandsFor, IsTable, IsFreeLeaf, AreLeav
 
 use map_model::TableFull;
 use row_words::RowsMut;
+use row_words::layout::LIVE_WORD;
 
 /// The least number of a leaf that isn't live, or the cap where all are. It reads one word of each
 /// leaf's row up to there.
@@ -38,7 +39,7 @@ pub fn free_leaf_from<R: RowsMut>(rows: &mut R, from: u32) -> Result<u32, TableF
             return Ok(leaf);
         }
     }
-    let used = rows.word(3) as u32;
+    let used = rows.word(LIVE_WORD) as u32;
     Err(TableFull::Leaves {
         used,
         cap: shape.leaves,

@@ -6,8 +6,10 @@
 //! link of 0 names the item at the next place, if there is one, and `n + 1` the item that `n` would
 //! name in a bucket: that at `n - 1`, or none where `n` is 0.
 
-ghost use Rattle.std.specs.Prelude.{◌≡◌, ◌<◌, ◌≤◌, ℕ};
+ghost use Rattle.std.specs.Prelude.{◌≡◌, ◌<◌, ◌≤◌, ◌-◌, ℕ};
 ghost use Rattle.meta_trie.specs.Trie.{named_free};
+
+use row_words::layout::UPPER;
 
 /// The free item behind the one at a place of so many, by that one's link: as place + 1, or 0.
 pub(crate) fn free_by_link(items: u32, at: u32, link: u32) -> u32
@@ -26,7 +28,7 @@ pub(crate) fn free_by_link(items: u32, at: u32, link: u32) -> u32
 
 /// The link of a free item that is to name this one, given as place + 1, or 0.
 pub(crate) fn free_link(free: u32) -> u32
-    requires { free < 4294967295 }
+    requires { free < UPPER - 1 }
     ensures { (items at : ℕ) → named_free items at result ≡ free }
 {
     free + 1

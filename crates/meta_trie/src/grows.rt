@@ -1,6 +1,6 @@
 //! Putting the prefixes of a new anchor into the trie.
 
-ghost use Rattle.std.specs.Prelude.{◌≡◌, ◌<◌, ◌≤◌, ◌+◌, ◌/◌, ◌%◌, ◌==◌, ◌||◌, ◌++◌, ◌∷◌, [], ℕ, List, Option, Bool, length, take, max, if◌then◌else◌};
+ghost use Rattle.std.specs.Prelude.{◌≡◌, ◌<◌, ◌≤◌, ◌+◌, ◌/◌, ◌%◌, ◌==◌, ◌||◌, ◌++◌, ◌∷◌, [], ℕ, List, Option, length, take, max, if◌then◌else◌};
 ghost use Rattle.key_bytes.specs.Common.{lcp};
 ghost use Rattle.key_bytes.specs.Fnv.{prefix_hash};
 ghost use Rattle.anchor_rules.specs.Anchors.{Anchors};
@@ -13,6 +13,7 @@ use crate::changes::change_item;
 use crate::finds::find;
 use crate::links::link_item;
 use key_bytes::Fnv;
+use row_words::layout::LONGEST_ANCHOR;
 use row_words::{ItemRow, RowsMut};
 use std::sync::ledger::Ledger;
 use steps::Steps;
@@ -61,7 +62,7 @@ fn grown_row(
     keeps_last: bool,
 ) -> ItemRow
     requires within { n ≤ length anchor.now }
-    requires short { length anchor.now < 256 }
+    requires short { length anchor.now < LONGEST_ANCHOR + 1 }
     ensures next { result.next ≡ item.now.next }
     ensures len { result.len ≡ n }
     ensures says { (it : Item) → Says item.now it → Says result (grown_by (take n anchor.now) anchor.now leaf keeps_first keeps_last it) }

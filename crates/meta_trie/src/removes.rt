@@ -1,6 +1,6 @@
 //! Removing an anchor.
 
-ghost use Rattle.std.specs.Prelude.{◌≡◌, ◌≢◌, ◌<◌, ◌≤◌, ◌+◌, ◌-◌, ◌*◌, ◌%◌, ℕ, List, Option, length, take, slice_index, slice_set};
+ghost use Rattle.std.specs.Prelude.{◌≡◌, ◌<◌, ◌≤◌, ◌+◌, ◌-◌, ℕ, List, Option, length, take, slice_index, slice_set};
 ghost use Rattle.anchor_rules.specs.Anchors.{Anchors, with_merge};
 ghost use Rattle.row_words.specs.Decode.{next_at};
 ghost use Rattle.meta_trie.specs.Stands.{StandsFor, IsTable};
@@ -9,7 +9,8 @@ ghost use Rattle.meta_trie.specs.Shrinks.{CanMerge, Shrinks, RowCut, RowDropped,
 use crate::adds::share_next;
 use crate::leaf_rows::{set_link, set_previous};
 use crate::shrinks::shrink;
-use row_words::{AnchorWords, Rows, RowsMut};
+use row_words::layout::{LIVE_WORD, LONGEST_ANCHOR, LONGEST_WORD, MARK_PART, NEXT_PART};
+use row_words::{AnchorWords, RowsMut};
 use std::marker::Brand;
 use std::sync::ledger::{Blank, Ledger};
 use steps::Steps;
@@ -55,11 +56,11 @@ fn remove_counting<R: RowsMut, L: Ledger>(rows: &mut R, leaf: u32, blank: Blank)
 }
 
 /// The bytes of an anchor, with zeros behind them.
-fn anchor_bytes(anchor: &AnchorWords) -> [u8; 256]
-    requires { length anchor.now < 256 }
+fn anchor_bytes(anchor: &AnchorWords) -> [u8; LONGEST_ANCHOR]
+    requires { length anchor.now < LONGEST_ANCHOR + 1 }
     ensures { take (length anchor.now) result ≡ anchor.now }
 {
-    let mut bytes = [0; 256];
+    let mut bytes = [0; LONGEST_ANCHOR];
     for i in 0..anchor.len() {
         bytes[i] = anchor.byte(i);
     }
@@ -98,9 +99,9 @@ fn cut_row<R: RowsMut>(rows: &mut R, left: u32, leaf: u32, next: u32)
     ensures shape { R.shape rows.new ≡ R.shape rows.old }
     ensures stays { R.stays rows.old rows.new }
 {
-    set_link(rows, left, 34, next as u64);
+    set_link(rows, left, NEXT_PART, next as u64);
     set_previous(rows, next, left as u64 + 1);
-    set_link(rows, leaf, 0, 0);
+    set_link(rows, leaf, MARK_PART, 0);
 }
 
 /// The greatest mark, or 1 if that is more.
@@ -127,22 +128,22 @@ fn set_longest<R: RowsMut>(rows: &mut R, len: usize)
     ensures shape { R.shape rows.new ≡ R.shape rows.old }
     ensures stays { R.stays rows.old rows.new }
 {
-    if rows.word(0) != len as u64 {
+    if rows.word(LONGEST_WORD) != len as u64 {
         return;
     }
     let top = top_mark(rows);
-    rows.set_word(0, top - 1);
+    rows.set_word(LONGEST_WORD, top - 1);
 }
 
 /// Counts one live leaf less.
 fn count_out<R: RowsMut>(rows: &mut R)
-    requires { 0 < slice_index (R.words rows.old) 3 }
-    ensures words { R.words rows.new ≡ slice_set (R.words rows.old) 3 (slice_index (R.words rows.old) 3 - 1) }
+    requires { 0 < slice_index (R.words rows.old) LIVE_WORD }
+    ensures words { R.words rows.new ≡ slice_set (R.words rows.old) LIVE_WORD (slice_index (R.words rows.old) LIVE_WORD - 1) }
     ensures shape { R.shape rows.new ≡ R.shape rows.old }
     ensures stays { R.stays rows.old rows.new }
 {
-    let live = rows.word(3);
-    rows.set_word(3, live - 1);
+    let live = rows.word(LIVE_WORD);
+    rows.set_word(LIVE_WORD, live - 1);
 }
 
 /// Takes the row of a leaf out, and counts it out of the header.
@@ -150,7 +151,7 @@ fn drop_row<R: RowsMut>(rows: &mut R, left: u32, leaf: u32, next: u32, len: usiz
     requires left { left < (R.shape rows.old).leaves }
     requires leaf { leaf < (R.shape rows.old).leaves }
     requires next { next ≤ (R.shape rows.old).leaves }
-    requires live { 0 < slice_index (R.words rows.old) 3 }
+    requires live { 0 < slice_index (R.words rows.old) LIVE_WORD }
     ensures words { RowDropped (R.shape rows.old) (R.words rows.old) (R.words rows.new) left leaf next len }
     ensures shape { R.shape rows.new ≡ R.shape rows.old }
     ensures stays { R.stays rows.old rows.new }

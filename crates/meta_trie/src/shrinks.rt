@@ -1,6 +1,6 @@
 //! Taking the prefixes of an anchor that goes out of the trie.
 
-ghost use Rattle.std.specs.Prelude.{◌≡◌, ◌<◌, ◌≤◌, ◌+◌, ◌/◌, ◌%◌, ◌==◌, ◌&&◌, ◌||◌, ◌++◌, ◌∷◌, [], not, ℕ, List, Option, Bool, length, take, max};
+ghost use Rattle.std.specs.Prelude.{◌≡◌, ◌<◌, ◌≤◌, ◌+◌, ◌/◌, ◌%◌, ◌==◌, ◌&&◌, ◌||◌, ◌++◌, ◌∷◌, [], not, ℕ, List, Option, length, take, max};
 ghost use Rattle.key_bytes.specs.Fnv.{prefix_hash};
 ghost use Rattle.anchor_rules.specs.Anchors.{Anchors};
 ghost use Rattle.anchor_rules.specs.Items.{Item, begins};
@@ -14,6 +14,7 @@ use crate::finds::find;
 use crate::grows::kept_or;
 use crate::unlinks::unlink_item;
 use key_bytes::Fnv;
+use row_words::layout::LONGEST_ANCHOR;
 use row_words::{ItemRow, RowsMut};
 use std::sync::ledger::Ledger;
 use steps::Steps;
@@ -61,7 +62,7 @@ fn shrunk_row(
     keeps_child: bool,
 ) -> ItemRow
     requires within { n ≤ length anchor.now }
-    requires short { length anchor.now < 256 }
+    requires short { length anchor.now < LONGEST_ANCHOR + 1 }
     ensures next { result.next ≡ item.now.next }
     ensures len { result.len ≡ n }
     ensures says { (it : Item) → Says item.now it → Says result (shrunk_by (take n anchor.now) anchor.now left after keeps_first keeps_last keeps_child it) }

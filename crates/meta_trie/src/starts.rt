@@ -1,12 +1,13 @@
 //! The table of the one empty anchor.
 
-ghost use Rattle.std.specs.Prelude.{◌≡◌, ◌<◌, ◌+◌, ◌∷◌, [], ℕ, length, slice_index};
+ghost use Rattle.std.specs.Prelude.{◌≡◌, ◌<◌, ◌∷◌, [], ℕ, slice_index};
 ghost use Rattle.meta_trie.specs.Stands.{StandsFor};
 ghost use Rattle.meta_trie.specs.Words.{Bare};
 
 use crate::links::link_item;
 use crate::puts::put;
 use key_bytes::Fnv;
+use row_words::layout::LONGEST_WORD;
 use row_words::{ItemRow, RowsMut};
 
 /// Makes the rows stand for the empty anchor with leaf 0, whatever they were. It writes each word;
@@ -50,7 +51,8 @@ fn lay_bare<R: RowsMut>(rows: &mut R)
     ensures shape { R.shape rows.new ≡ R.shape rows.old }
     ensures stays { R.stays rows.old rows.new }
 {
-    put(rows, 0, &[0, 0, 1, 1]);
+    // The four words of the header.
+    put(rows, LONGEST_WORD, &[0, 0, 1, 1]);
     let row = rows.layout().leaf_word(0);
     put(rows, row, &[1]);
 }

@@ -1,6 +1,6 @@
 //! Taking an item out of its bucket, as an anchor that goes will.
 
-ghost use Rattle.std.specs.Prelude.{◌≡◌, ◌≢◌, ◌<◌, ◌≤◌, ◌+◌, ◌/◌, ◌%◌};
+ghost use Rattle.std.specs.Prelude.{◌≡◌, ◌≢◌, ◌<◌, ◌≤◌, ◌+◌, ◌-◌, ◌/◌, ◌%◌};
 ghost use Rattle.meta_trie.specs.Trie.{free_of, used_of};
 ghost use Rattle.meta_trie.specs.Words.{NextSet, Relinked, Unlinked};
 
@@ -8,13 +8,14 @@ use crate::free_links::free_link;
 use crate::links::next_of;
 use crate::puts::put;
 use row_words::RowsMut;
+use row_words::layout::{FREE_WORD, HEADER_WORDS, LINK_PART, UPPER, USED_WORD};
 
 /// The word with another link in its low half.
 fn with_next(word: u64, next: u32) -> u64
-    ensures next { result % 4294967296 ≡ next }
-    ensures rest { result / 4294967296 ≡ word / 4294967296 }
+    ensures next { result % UPPER ≡ next }
+    ensures rest { result / UPPER ≡ word / UPPER }
 {
-    word / 4_294_967_296 * 4_294_967_296 + next as u64
+    word / UPPER * UPPER + next as u64
 }
 
 /// Links the item at a place to another one.
@@ -24,7 +25,7 @@ fn set_next<R: RowsMut>(rows: &mut R, at: u32, next: u32)
     ensures shape { R.shape rows.new ≡ R.shape rows.old }
     ensures stays { R.stays rows.old rows.new }
 {
-    let place = rows.layout().item_word(at) + 1;
+    let place = rows.layout().item_word(at) + LINK_PART;
     let word = rows.word(place);
     rows.set_word(place, with_next(word, next));
 }
@@ -39,7 +40,7 @@ fn relink<R: RowsMut>(rows: &mut R, before: u32, bucket: u32, next: u32)
     ensures stays { R.stays rows.old rows.new }
 {
     if before == 0 {
-        rows.set_word(4 + bucket, next as u64);
+        rows.set_word(HEADER_WORDS + bucket, next as u64);
         return;
     }
     set_next(rows, before - 1, next);
@@ -52,15 +53,15 @@ pub(crate) fn unlink_item<R: RowsMut>(rows: &mut R, at: u32, before: u32, bucket
     requires apart { before ≢ at + 1 }
     requires bucket { bucket < (R.shape rows.old).heads }
     requires used { 0 < used_of (R.words rows.old) }
-    requires free { free_of (R.words rows.old) < 4294967295 }
+    requires free { free_of (R.words rows.old) < UPPER - 1 }
     ensures words { Unlinked (R.shape rows.old) (R.words rows.old) (R.words rows.new) at before bucket }
     ensures shape { R.shape rows.new ≡ R.shape rows.old }
     ensures stays { R.stays rows.old rows.new }
 {
-    let link = free_link(rows.word(2) as u32);
-    let used = rows.word(1);
+    let link = free_link(rows.word(FREE_WORD) as u32);
+    let used = rows.word(USED_WORD);
     let next = next_of(rows, at);
     relink(rows, before, bucket, next);
     relink(rows, at + 1, bucket, link);
-    put(rows, 1, &[used - 1, at as u64 + 1]);
+    put(rows, USED_WORD, &[used - 1, at as u64 + 1]);
 }

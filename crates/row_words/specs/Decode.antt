@@ -1,7 +1,8 @@
 -- What the words of a table say.
 use Rattle.std.specs.Prelude.{ℕ, ◌≡◌, ◌+◌, ◌-◌, ◌/◌, ◌%◌, ◌<◌, ◌≤◌, ◌==◌, List, [], ◌∷◌, length, slice_index, take}
 use Rattle.row_words.specs.Bytes.{bytes_from}
-use Rattle.row_words.specs.Layout.{longest_word, head_word, item_word, leaf_word}
+use Rattle.row_words.specs.Layout.{head_word, item_word, leaf_word}
+use Rattle.row_words.specs.declared.layout.TheConstants.{LONGEST_ANCHOR, LONGEST_WORD, LINK_PART, SIDES_PART, BITS_PART, BYTES_PART, PREVIOUS_PART, NEXT_PART, UPPER, LENGTHS, ANCHOR_MARK}
 use Rattle.row_words.specs.declared.shape.Shape.{Shape}
 use Rattle.row_words.specs.declared.rows.ItemRow.{ItemRow}
 use Rattle.row_words.specs.declared.rows.Probe.{Probe}
@@ -9,11 +10,11 @@ use Rattle.row_words.specs.declared.rows.Probe.TheVariants.{Same, Other}
 
 -- the length of the longest anchor, by the header
 abbrev pub longest_at : List ℕ → ℕ
-longest_at words = slice_index words longest_word % 4294967296
+longest_at words = slice_index words LONGEST_WORD % UPPER
 
 -- the first item of a bucket as place + 1, or 0
 abbrev pub head_at : Shape → List ℕ → ℕ → ℕ
-head_at k words bucket = slice_index words (head_word k bucket) % 4294967296
+head_at k words bucket = slice_index words (head_word k bucket) % UPPER
 
 -- the hash of an item's prefix
 abbrev pub hash_at : Shape → List ℕ → ℕ → ℕ
@@ -21,17 +22,17 @@ hash_at k words at = slice_index words (item_word k at)
 
 -- the word that has an item's link, length and mark
 abbrev pub link_word : Shape → List ℕ → ℕ → ℕ
-link_word k words at = slice_index words (item_word k at + 1)
+link_word k words at = slice_index words (item_word k at + LINK_PART)
 
 -- the item at a place
 abbrev pub item_at : Shape → List ℕ → ℕ → ItemRow
 item_at k words at = record {
-  next = link_word k words at % 4294967296;
-  len = link_word k words at / 4294967296 % 65536;
-  is_anchor = link_word k words at / 281474976710656 % 2 == 1;
-  leftmost = slice_index words (item_word k at + 2) % 4294967296;
-  rightmost = slice_index words (item_word k at + 2) / 4294967296;
-  bits = slice_index words (item_word k at + 3) ∷ slice_index words (item_word k at + 4) ∷ slice_index words (item_word k at + 5) ∷ slice_index words (item_word k at + 6) ∷ [];
+  next = link_word k words at % UPPER;
+  len = link_word k words at / UPPER % LENGTHS;
+  is_anchor = link_word k words at / ANCHOR_MARK % 2 == 1;
+  leftmost = slice_index words (item_word k at + SIDES_PART) % UPPER;
+  rightmost = slice_index words (item_word k at + SIDES_PART) / UPPER;
+  bits = slice_index words (item_word k at + BITS_PART) ∷ slice_index words (item_word k at + (BITS_PART + 1)) ∷ slice_index words (item_word k at + (BITS_PART + 2)) ∷ slice_index words (item_word k at + (BITS_PART + 3)) ∷ [];
 }
 
 -- the mark of a leaf's row: 0, or the length of its anchor + 1
@@ -40,18 +41,18 @@ mark_at k words leaf = slice_index words (leaf_word k leaf)
 
 -- a leaf's row is in use
 abbrev pub IsLive : Shape → List ℕ → ℕ → Type 0
-IsLive k words leaf = (leaf < k.leaves) × (0 < mark_at k words leaf) × (mark_at k words leaf ≤ 256)
+IsLive k words leaf = (leaf < k.leaves) × (0 < mark_at k words leaf) × (mark_at k words leaf ≤ LONGEST_ANCHOR + 1)
 
 -- the anchor of a live leaf
 abbrev pub anchor_at : Shape → List ℕ → ℕ → List ℕ
-anchor_at k words leaf = bytes_from words (leaf_word k leaf + 1) (mark_at k words leaf - 1)
+anchor_at k words leaf = bytes_from words (leaf_word k leaf + BYTES_PART) (mark_at k words leaf - 1)
 
 -- a live leaf's neighbours as number + 1, or 0
 abbrev pub previous_at : Shape → List ℕ → ℕ → ℕ
-previous_at k words leaf = slice_index words (leaf_word k leaf + 33) % 4294967296
+previous_at k words leaf = slice_index words (leaf_word k leaf + PREVIOUS_PART) % UPPER
 
 abbrev pub next_at : Shape → List ℕ → ℕ → ℕ
-next_at k words leaf = slice_index words (leaf_word k leaf + 34) % 4294967296
+next_at k words leaf = slice_index words (leaf_word k leaf + NEXT_PART) % UPPER
 
 -- an item stands there, and its leftmost leaf is live
 abbrev pub IsUsed : Shape → List ℕ → ℕ → Type 0

@@ -2,6 +2,7 @@
 use Rattle.std.specs.Prelude.{ℕ, ◌≡◌, ◌+◌, ◌*◌, List, ◌++◌, length}
 use Rattle.std.proofs.Common.{◌∙◌, ap, length-append}
 use Rattle.row_words.specs.Layout.{word_count}
+use Rattle.row_words.specs.declared.layout.TheConstants.{HEADER_WORDS, ITEM_WORDS}
 use Rattle.row_words.specs.declared.shape.Shape.{Shape}
 use Rattle.row_words.specs.declared.vec_rows.VecRows.{VecRows}
 
@@ -25,6 +26,6 @@ length-words_of rows =
     ∙ ap (λ (n : ℕ). n + length rows.leaves) (length-append (rows.header ++ rows.heads) rows.items)
     ∙ ap (λ (n : ℕ). n + length rows.items + length rows.leaves) (length-append rows.header rows.heads)
     ∙ ap (λ (n : ℕ). n + length rows.heads + length rows.items + length rows.leaves) rows.header_sized
-    ∙ ap (λ (n : ℕ). 4 + n + length rows.items + length rows.leaves) rows.heads_sized
-    ∙ ap (λ (n : ℕ). 4 + rows.shape.heads + n + length rows.leaves) rows.items_sized
-    ∙ ap (λ (n : ℕ). 4 + rows.shape.heads + 8 * rows.shape.items + n) rows.leaves_sized
+    ∙ ap (λ (n : ℕ). HEADER_WORDS + n + length rows.items + length rows.leaves) rows.heads_sized
+    ∙ ap (λ (n : ℕ). HEADER_WORDS + rows.shape.heads + n + length rows.leaves) rows.items_sized
+    ∙ ap (λ (n : ℕ). HEADER_WORDS + rows.shape.heads + ITEM_WORDS * rows.shape.items + n) rows.leaves_sized

@@ -2,35 +2,37 @@
 
 ghost use Rattle.std.specs.Prelude.{◌≡◌, ◌<◌, ◌≤◌, ◌+◌, ◌*◌, ◌/◌, ◌%◌, ◌^◌, ◌==◌, ℕ, length, slice_index, IfOk};
 
+use crate::layout::{ANCHOR_WORDS, LONGEST_ANCHOR, UPPER};
 use std::alloc::{AllocError, Global};
 use std::marker::Model;
 
-/// The bytes of an anchor, 0 to 255, packed into words with the first byte lowest. A contract sees
+/// The bytes of an anchor, at most [`LONGEST_ANCHOR`], packed into words with the first byte lowest. A contract sees
 /// the list of the bytes.
 #[derive(Debug, Drop)]
 pub struct AnchorWords {
     pub(crate) len: u32,
-    pub(crate) words: [u64; 32],
+    pub(crate) words: [u64; ANCHOR_WORDS],
 }
 
 impl Model for AnchorWords {
-    ghost use Rattle.std.specs.Prelude.{List, ℕ, ◌<◌};
+    ghost use Rattle.std.specs.Prelude.{List, ℕ, ◌<◌, ◌+◌};
+    ghost use Rattle.row_words.specs.declared.layout.TheConstants.{LONGEST_ANCHOR};
     ghost use Rattle.row_words.specs.Bytes.{bytes_from};
 
     ghost Value = { List ℕ };
 
     ghost view = { λ a. bytes_from a.words 0 a.len };
 
-    ghost invariant = { λ a. a.len < 256 };
+    ghost invariant = { λ a. a.len < LONGEST_ANCHOR + 1 };
 }
 
 impl AnchorWords {
     /// These bytes, packed.
     pub fn new(bytes: &[u8]) -> AnchorWords
-        requires { length bytes.now < 256 }
+        requires { length bytes.now < LONGEST_ANCHOR + 1 }
         ensures { result ≡ bytes.now }
     {
-        let mut words = [0; 32];
+        let mut words = [0; ANCHOR_WORDS];
         for i in 0..(bytes.len() + 7) / 8 {
             words[i] = packed_word(bytes, i);
         }
@@ -85,7 +87,7 @@ pub fn packed_word(bytes: &[u8], i: usize) -> u64
     }
     let low = four(bytes, 8 * i);
     let high = four(bytes, 8 * i + 4);
-    low as u64 + high as u64 * 4_294_967_296
+    low as u64 + high as u64 * UPPER
 }
 
 /// The eight bytes from a place on, the first one lowest. There are as many, so no byte is asked
@@ -96,7 +98,7 @@ pub(crate) fn whole_word(bytes: &[u8], from: usize) -> u64
 {
     let low = whole_four(bytes, from);
     let high = whole_four(bytes, from + 4);
-    low as u64 + high as u64 * 4_294_967_296
+    low as u64 + high as u64 * UPPER
 }
 
 /// The four bytes from a place on, the first one lowest.

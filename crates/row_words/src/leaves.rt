@@ -3,6 +3,7 @@
 ghost use Rattle.std.specs.Prelude.{◌≡◌, ◌+◌};
 ghost use Rattle.row_words.specs.Decode.{IsLive, anchor_at, previous_at, next_at};
 
+use crate::layout::{ANCHOR_WORDS, BYTES_PART, MARK_PART, NEXT_PART, PREVIOUS_PART, UPPER};
 use crate::{AnchorWords, LeafRow, Words};
 use std::sync::ledger::Ledger;
 use steps::Steps;
@@ -19,16 +20,16 @@ pub fn leaf_words<W: Words, L: Ledger>(words: &mut W, at: u32, steps: &mut Steps
     ensures stays { W.stays words.old words.new }
 {
     steps.tick();
-    let mark = words.leaf_part(at, 0);
+    let mark = words.leaf_part(at, MARK_PART);
     let len = (mark - 1) as u32;
-    let mut packed = [0; 32];
+    let mut packed = [0; ANCHOR_WORDS];
     // The words behind the anchor's last byte aren't looked at.
     for j in 0..(len + 7) / 8 {
-        packed[j as usize] = words.leaf_part(at, 1 + j);
+        packed[j as usize] = words.leaf_part(at, BYTES_PART + j);
     }
     LeafRow {
         anchor: AnchorWords { len, words: packed },
-        previous: (words.leaf_part(at, 33) % 4_294_967_296) as u32,
-        next: (words.leaf_part(at, 34) % 4_294_967_296) as u32,
+        previous: (words.leaf_part(at, PREVIOUS_PART) % UPPER) as u32,
+        next: (words.leaf_part(at, NEXT_PART) % UPPER) as u32,
     }
 }

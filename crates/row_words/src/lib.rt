@@ -4,6 +4,7 @@
 
 mod anchor_words;
 mod head_words;
+pub mod layout;
 mod leaves;
 mod padded_words;
 mod probes;

@@ -3,6 +3,7 @@
 ghost use Rattle.std.specs.Prelude.{◌≡◌, ◌+◌};
 ghost use Rattle.row_words.specs.Decode.{IsUsed, Probed};
 
+use crate::layout::{ANCHOR_MARK, LENGTHS, MARK_PART, UPPER};
 use crate::{ItemRow, Probe, Words};
 use std::sync::ledger::Ledger;
 use steps::Steps;
@@ -25,13 +26,13 @@ pub fn probe_words<W: Words, L: Ledger>(
 {
     steps.tick();
     let [found, link, sides] = words.item_head(at);
-    let next = (link % 4_294_967_296) as u32;
-    let len = (link / 4_294_967_296 % 65_536) as u32;
-    let leftmost = (sides % 4_294_967_296) as u32;
+    let next = (link % UPPER) as u32;
+    let len = (link / UPPER % LENGTHS) as u32;
+    let leftmost = (sides % UPPER) as u32;
     if found != hash || len as usize != prefix.len() {
         return Probe::Other { next };
     }
-    let mark = words.leaf_part(leftmost, 0);
+    let mark = words.leaf_part(leftmost, MARK_PART);
     if len as u64 > mark - 1 {
         return Probe::Other { next };
     }
@@ -41,9 +42,9 @@ pub fn probe_words<W: Words, L: Ledger>(
     Probe::Same(ItemRow {
         next,
         len,
-        is_anchor: link / 281_474_976_710_656 % 2 == 1,
+        is_anchor: link / ANCHOR_MARK % 2 == 1,
         leftmost,
-        rightmost: (sides / 4_294_967_296) as u32,
+        rightmost: (sides / UPPER) as u32,
         bits: words.item_bits(at),
     })
 }

@@ -1,6 +1,6 @@
 //! What may read and write the rows of a table.
 
-ghost use Rattle.std.specs.Prelude.{◌≡◌, ◌<◌, ◌+◌, ◌%◌, ◌≤◌, length, slice_index, slice_set};
+ghost use Rattle.std.specs.Prelude.{◌≡◌, ◌<◌, ◌+◌, ◌%◌, length, slice_index, slice_set};
 ghost use Rattle.row_words.specs.Layout.{word_count};
 ghost use Rattle.row_words.specs.Shape.{IsShape};
 ghost use Rattle.row_words.specs.Decode.{longest_at, head_at, IsUsed, IsLive, Probed, anchor_at, previous_at, next_at};

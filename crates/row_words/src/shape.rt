@@ -1,8 +1,10 @@
 //! The numbers by which an index and its tables are laid out.
 
-ghost use Rattle.std.specs.Prelude.{◌≡◌, ◌<◌, ◌≤◌, ◌+◌, OnOk, IfErr};
+ghost use Rattle.std.specs.Prelude.{◌≡◌, ◌<◌, ◌+◌, OnOk, IfErr};
 ghost use Rattle.row_words.specs.Layout as layout;
 ghost use Rattle.row_words.specs.Shape.{IsShape, IsFirstFault, fault_number};
+
+use crate::layout::{HEADER_WORDS, ITEM_WORDS, LEAF_WORDS};
 
 /// The numbers of an index. Each but the salt has a range, and [`Shape::check`] tells whether they
 /// are in it.
@@ -118,13 +120,22 @@ impl Shape {
         Ok(())
     }
 
+    /// The word of the head of a bucket.
+    pub fn head_word(&self, bucket: u32) -> u32
+        requires shape { IsShape self.now }
+        requires bucket { bucket < self.now.heads }
+        ensures { result ≡ layout.head_word self.now bucket }
+    {
+        HEADER_WORDS + bucket
+    }
+
     /// The first word of the item at a place.
     pub fn item_word(&self, at: u32) -> u32
         requires shape { IsShape self.now }
         requires at { at < self.now.items }
         ensures { result ≡ layout.item_word self.now at }
     {
-        4 + self.heads + 8 * at
+        HEADER_WORDS + self.heads + ITEM_WORDS * at
     }
 
     /// The first word of a leaf's row.
@@ -133,7 +144,7 @@ impl Shape {
         requires leaf { leaf < self.now.leaves }
         ensures { result ≡ layout.leaf_word self.now leaf }
     {
-        4 + self.heads + 8 * self.items + 35 * leaf
+        HEADER_WORDS + self.heads + ITEM_WORDS * self.items + LEAF_WORDS * leaf
     }
 
     /// How many words a table has.
@@ -141,7 +152,7 @@ impl Shape {
         requires { IsShape self.now }
         ensures { result ≡ layout.word_count self.now }
     {
-        4 + self.heads + 8 * self.items + 35 * self.leaves
+        HEADER_WORDS + self.heads + ITEM_WORDS * self.items + LEAF_WORDS * self.leaves
     }
 }
 

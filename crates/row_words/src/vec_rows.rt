@@ -3,13 +3,16 @@
 ghost use Rattle.std.specs.Prelude.{◌≡◌, ◌<◌, ◌+◌, ◌*◌, IfOk, length, replicate};
 ghost use Rattle.row_words.specs.Layout.{word_count};
 ghost use Rattle.row_words.specs.Shape.{IsShape};
+ghost use Rattle.row_words.specs.declared.layout.TheConstants.{HEADER_WORDS, ITEM_WORDS, LEAF_WORDS};
 
 use crate::head_words::HeadWords;
+use crate::layout::{
+    BITS_PART, BYTES_PART, HEADER_WORDS, ITEM_WORDS, LEAF_WORDS, LONGEST_WORD, UPPER,
+};
 use crate::padded_words::PaddedWords;
 use crate::words::words_begin;
 use crate::{
-    ItemRow, LeafParts, LeafRow, Probe, Rows, RowsMut, Shape, Words, begins, leaf_words,
-    probe_words,
+    LeafParts, LeafRow, Probe, Rows, RowsMut, Shape, Words, begins, leaf_words, probe_words,
 };
 use std::alloc::{AllocError, Global};
 use std::sync::ledger::Ledger;
@@ -26,15 +29,15 @@ use steps::Steps;
 #[derive(Debug, Drop)]
 pub struct VecRows {
     shape: Shape,
-    header: [u64; 4],
+    header: [u64; HEADER_WORDS as usize],
     heads: HeadWords,
     items: PaddedWords,
     leaves: PaddedWords,
     ghost ranges: { IsShape shape },
-    ghost header_sized: { length header ≡ 4 },
+    ghost header_sized: { length header ≡ HEADER_WORDS },
     ghost heads_sized: { length heads ≡ shape.heads },
-    ghost items_sized: { length items ≡ 8 * shape.items },
-    ghost leaves_sized: { length leaves ≡ 35 * shape.leaves },
+    ghost items_sized: { length items ≡ ITEM_WORDS * shape.items },
+    ghost leaves_sized: { length leaves ≡ LEAF_WORDS * shape.leaves },
 }
 
 #[tactic(auto, unfolding(crate::specs::VecRows::joined))]
@@ -50,10 +53,10 @@ impl VecRows {
     {
         Ok(VecRows {
             shape: *shape,
-            header: [0; 4],
+            header: [0; HEADER_WORDS as usize],
             heads: HeadWords::new(alloc, shape.heads as usize)?,
-            items: PaddedWords::new(alloc, 8 * shape.items as usize)?,
-            leaves: PaddedWords::new(alloc, 35 * shape.leaves as usize)?,
+            items: PaddedWords::new(alloc, (ITEM_WORDS * shape.items) as usize)?,
+            leaves: PaddedWords::new(alloc, (LEAF_WORDS * shape.leaves) as usize)?,
         })
     }
 }
@@ -76,23 +79,23 @@ impl LeafParts for VecRows {
     ghost stays_trans = { λ a b c p q. q ∙ p };
 
     fn leaf_part(&mut self, leaf: u32, word: u32) -> u64 {
-        self.leaves.get((35 * leaf + word) as usize)
+        self.leaves.get((LEAF_WORDS * leaf + word) as usize)
     }
 }
 
 #[tactic(auto, unfolding(crate::specs::VecRows::joined))]
 impl Words for VecRows {
     fn item_head(&mut self, at: u32) -> [u64; 3] {
-        self.items.three(8 * at as usize)
+        self.items.three((ITEM_WORDS * at) as usize)
     }
 
     fn item_bits(&mut self, at: u32) -> [u64; 4] {
-        self.items.four(8 * at as usize + 3)
+        self.items.four((ITEM_WORDS * at + BITS_PART) as usize)
     }
 
     // Only kept words lie side by side. Where some aren't, each is asked for by itself.
     fn leaf_begins(&mut self, leaf: u32, bytes: &[u8]) -> bool {
-        let first = (35 * leaf + 1) as usize;
+        let first = (LEAF_WORDS * leaf + BYTES_PART) as usize;
         match self.leaves.kept_from(first, bytes.len() / 8 + 1) {
             Some(words) => words_begin(words, bytes),
             None => begins(self, leaf, bytes),
@@ -129,7 +132,7 @@ impl Rows for VecRows {
     }
 
     fn longest(&mut self) -> u32 {
-        (self.header[0] % 4_294_967_296) as u32
+        (self.header[LONGEST_WORD as usize] % UPPER) as u32
     }
 
     fn head(&mut self, bucket: u32) -> u32 {
@@ -158,12 +161,12 @@ impl RowsMut for VecRows {
     }
 
     fn word(&mut self, i: u32) -> u64 {
-        let front = 4 + self.shape.heads;
-        let items = 8 * self.shape.items;
-        if i < 4 {
+        let front = HEADER_WORDS + self.shape.heads;
+        let items = ITEM_WORDS * self.shape.items;
+        if i < HEADER_WORDS {
             self.header[i as usize]
         } else if i < front {
-            self.heads.get(i as usize - 4)
+            self.heads.get((i - HEADER_WORDS) as usize)
         } else if i - front < items {
             self.items.get((i - front) as usize)
         } else {
@@ -173,12 +176,12 @@ impl RowsMut for VecRows {
 
     #[tactic(auto, using(crate::proofs::Joined::set_header, crate::proofs::Joined::set_heads, crate::proofs::Joined::set_items, crate::proofs::Joined::set_leaves))]
     fn set_word(&mut self, i: u32, word: u64) {
-        let front = 4 + self.shape.heads;
-        let items = 8 * self.shape.items;
-        if i < 4 {
+        let front = HEADER_WORDS + self.shape.heads;
+        let items = ITEM_WORDS * self.shape.items;
+        if i < HEADER_WORDS {
             self.header[i as usize] = word;
         } else if i < front {
-            self.heads.set(i as usize - 4, word);
+            self.heads.set((i - HEADER_WORDS) as usize, word);
         } else if i - front < items {
             self.items.set((i - front) as usize, word);
         } else {
@@ -187,9 +190,17 @@ impl RowsMut for VecRows {
     }
 }
 
+// A table may go to another thread.
+fn rows_are_send() {
+    is_send::<VecRows>();
+}
+
+fn is_send<T: Send>() {}
+
 #[cfg(test)]
 mod tests {
     use super::*;
+    use crate::layout::LONGEST_ANCHOR;
     use std::marker::Brand;
     use std::sync::ledger::Blank;
     use std::test::Fail;
@@ -326,7 +337,9 @@ mod tests {
 
     // Whether the anchor of leaf 1 begins with a text.
     fn starts_with(rows: &mut VecRows, text: &str) -> bool {
-        1 < rows.layout().leaves && text.len() < 256 && rows.leaf_begins(1, text.as_bytes())
+        1 < rows.layout().leaves
+            && text.len() <= LONGEST_ANCHOR
+            && rows.leaf_begins(1, text.as_bytes())
     }
 
     fn first_head(rows: &mut VecRows) -> u32 {

@@ -5,8 +5,13 @@ ghost use Rattle.row_words.specs.Bytes.{bytes_from};
 ghost use Rattle.row_words.specs.Layout.{leaf_word};
 
 use crate::anchor_words::{whole_four, whole_word};
+use crate::layout::{BYTES_PART, LEAF_WORDS, LINK_PART, LONGEST_ANCHOR, SIDES_PART, UPPER};
 
 /// Leaf rows whose words can be read. No call changes a word, and each tells what `stays`.
+///
+/// These reads tick no step, so they aren't for readers of rows, who count what they take: a reader
+/// has [`crate::Rows`] alone. They are what a table offers to [`crate::leaf_words`] and
+/// [`crate::probe_words`], which tick for it.
 pub trait LeafParts {
     ghost use Rattle.std.specs.Prelude.{List, ℕ, ◌≡◌, ◌<◌, ◌+◌, slice_index};
     ghost use Rattle.row_words.specs.declared.shape.Shape.{Shape};
@@ -22,7 +27,7 @@ pub trait LeafParts {
     /// A word of a leaf's row.
     fn leaf_part(&mut self, leaf: u32, word: u32) -> u64
         requires leaf { leaf < (shape self.old).leaves }
-        requires word { word < 35 }
+        requires word { word < LEAF_WORDS }
         ensures value { result ≡ slice_index (words self.old) (leaf_word (shape self.old) leaf + word) }
         ensures words { words self.new ≡ words self.old }
         ensures shape { shape self.new ≡ shape self.old }
@@ -37,6 +42,9 @@ pub trait LeafParts {
 /// [`crate::probe_words`] and [`crate::leaf_words`]. Words are named by their row, so that a table whose
 /// items and leaf rows lie apart needn't find out which it is, and those that are always read together
 /// are read by one call. No call changes a word, and each tells what `stays`.
+///
+/// As with [`LeafParts`], no read ticks a step, so this isn't for readers of rows: it is for the
+/// implementor of [`crate::Rows`].
 pub trait Words: LeafParts {
     ghost use Rattle.std.specs.Prelude.{[], ◌∷◌, ◌≡◌, ◌<◌, ◌+◌, ◌↔◌, IsTrue, length, slice_index};
     ghost use Rattle.row_words.specs.Bytes.{bytes_from};
@@ -47,7 +55,7 @@ pub trait Words: LeafParts {
     /// its leaves.
     fn item_head(&mut self, at: u32) -> [u64; 3]
         requires { at < (Self.shape self.old).items }
-        ensures value { result ≡ slice_index (Self.words self.old) (item_word (Self.shape self.old) at) ∷ slice_index (Self.words self.old) (item_word (Self.shape self.old) at + 1) ∷ slice_index (Self.words self.old) (item_word (Self.shape self.old) at + 2) ∷ [] }
+        ensures value { result ≡ slice_index (Self.words self.old) (item_word (Self.shape self.old) at) ∷ slice_index (Self.words self.old) (item_word (Self.shape self.old) at + LINK_PART) ∷ slice_index (Self.words self.old) (item_word (Self.shape self.old) at + SIDES_PART) ∷ [] }
         ensures words { Self.words self.new ≡ Self.words self.old }
         ensures shape { Self.shape self.new ≡ Self.shape self.old }
         ensures stays { Self.stays self.old self.new };
@@ -63,8 +71,8 @@ pub trait Words: LeafParts {
     /// Whether the bytes of a leaf's row begin with these. [`begins`] answers it by a call for each word.
     fn leaf_begins(&mut self, leaf: u32, bytes: &[u8]) -> bool
         requires leaf { leaf < (Self.shape self.old).leaves }
-        requires short { length bytes.now < 256 }
-        ensures value { IsTrue result ↔ (bytes_from (Self.words self.old) (leaf_word (Self.shape self.old) leaf + 1) (length bytes.now) ≡ bytes.now) }
+        requires short { length bytes.now < LONGEST_ANCHOR + 1 }
+        ensures value { IsTrue result ↔ (bytes_from (Self.words self.old) (leaf_word (Self.shape self.old) leaf + BYTES_PART) (length bytes.now) ≡ bytes.now) }
         ensures words { Self.words self.new ≡ Self.words self.old }
         ensures shape { Self.shape self.new ≡ Self.shape self.old }
         ensures stays { Self.stays self.old self.new };
@@ -74,19 +82,19 @@ pub trait Words: LeafParts {
 /// compared at a time, as one word.
 pub fn begins<W: LeafParts>(words: &mut W, leaf: u32, bytes: &[u8]) -> bool
     requires leaf { leaf < (W.shape words.old).leaves }
-    requires short { length bytes.now < 256 }
-    ensures value { IsTrue result ↔ (bytes_from (W.words words.old) (leaf_word (W.shape words.old) leaf + 1) (length bytes.now) ≡ bytes.now) }
+    requires short { length bytes.now < LONGEST_ANCHOR + 1 }
+    ensures value { IsTrue result ↔ (bytes_from (W.words words.old) (leaf_word (W.shape words.old) leaf + BYTES_PART) (length bytes.now) ≡ bytes.now) }
     ensures words { W.words words.new ≡ W.words words.old }
     ensures shape { W.shape words.new ≡ W.shape words.old }
     ensures stays { W.stays words.old words.new }
 {
     let whole = bytes.len() / 8;
     for i in 0..whole {
-        if words.leaf_part(leaf, 1 + i as u32) != whole_word(bytes, 8 * i) {
+        if words.leaf_part(leaf, BYTES_PART + i as u32) != whole_word(bytes, 8 * i) {
             return false;
         }
     }
-    let last = words.leaf_part(leaf, 1 + whole as u32);
+    let last = words.leaf_part(leaf, BYTES_PART + whole as u32);
     word_begins(last, &bytes[8 * whole..])
 }
 
@@ -127,7 +135,7 @@ fn four_are(word: u64, bytes: &[u8], from: usize) -> bool
     requires short { length bytes.now < 8 }
     ensures { IsTrue result ↔ ((j : ℕ) → j < 4 → word / 2 ^ (8 * (from + j)) % 256 ≡ slice_index bytes.now (from + j)) }
 {
-    let part = (word >> (8 * from as u32)) % 4_294_967_296;
+    let part = (word >> (8 * from as u32)) % UPPER;
     part as u32 == whole_four(bytes, from)
 }
 

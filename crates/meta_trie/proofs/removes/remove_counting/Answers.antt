@@ -1,6 +1,7 @@
-use Rattle.std.proofs.Common.{◌≡◌, ◌<◌, ℕ, List, length, take, arith, sym, ap, ◌∙◌, subst, true}
+use Rattle.std.proofs.Common.{◌≡◌, ◌+◌, ◌<◌, ℕ, List, length, take, arith, sym, ap, ◌∙◌, subst, true}
 use Rattle.anchor_rules.specs.Anchors.{Anchors, has_leaf}
 use Rattle.row_words.specs.Decode.{IsLive}
+use Rattle.row_words.specs.declared.layout.TheConstants.{LONGEST_ANCHOR}
 use Rattle.meta_trie.proofs.OnlyOne.{stands_only}
 use Rattle.meta_trie.proofs.Dropping.{mergeable, shrinks_by}
 use Rattle.meta_trie.proofs.removes.remove_counting.Goals as goal
@@ -14,7 +15,7 @@ pub anchor_bytes-bytes-requires : goal.anchor_bytes-bytes-requires
 anchor_bytes-bytes-requires g c =
     let t = c.requires.table in
     let m = mergeable _ _ t.0 c.args.leaf t.1.0 t.1.1 t.1.2 in
-    subst (λ (a : List ℕ). length a < 256) (sym (c.leaf-row.ensures.anchor ∙ m.beside.anchor_is)) m.short
+    subst (λ (a : List ℕ). length a < LONGEST_ANCHOR + 1) (sym (c.leaf-row.ensures.anchor ∙ m.beside.anchor_is)) m.short
 
 pub share_next-front-requires : goal.share_next-front-requires
 share_next-front-requires g c =
