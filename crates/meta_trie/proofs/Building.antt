@@ -16,7 +16,7 @@ use Rattle.anchor_rules.proofs.Ats.{leaf_in}
 use Rattle.map_model.specs.declared.refusal.TableFull.{TableFull}
 use Rattle.map_model.specs.declared.refusal.TableFull.TheVariants.{Leaves, Items, Versions}
 use Rattle.row_words.specs.declared.shape.Shape.{Shape}
-use Rattle.row_words.specs.declared.layout.TheConstants.{LONGEST_ANCHOR, UPPER, LENGTHS}
+use Rattle.row_words.specs.declared.layout.TheConstants.{LONGEST_ANCHOR, UPPER}
 use Rattle.meta_trie.specs.Stands.{fresh_count, prefix_count, new_count, FitsSplit, AreItemsFull}
 use Rattle.anchor_rules.proofs.Prefixes.{lcp_sym, lcp_short}
 use Rattle.meta_trie.proofs.LeafRows.{leaves_distinct}
@@ -196,10 +196,10 @@ pub record Counting (A : Anchors) (i count : ℕ) : Type 0 where
   pub within : lcp (anchor_at A (i - 1)) (anchor_at A i) ≤ length (anchor_at A i)
   pub few : prefix_count A < UPPER
 
-pub count_few : (A : Anchors) → AreShort A → length A ≤ LENGTHS → prefix_count A < UPPER
+pub count_few : (A : Anchors) → AreShort A → length A ≤ 65536 → prefix_count A < UPPER
 count_few A s few = let e = fresh_few [] A s in omega (arith, e, few)
 
-pub counting : (A : Anchors) (i count : ℕ) → AreShort A → length A ≤ LENGTHS → i < length A → count + fresh_count (anchor_at A (i - 1)) (drop i A) ≡ prefix_count A → Counting A i count
+pub counting : (A : Anchors) (i count : ℕ) → AreShort A → length A ≤ 65536 → i < length A → count + fresh_count (anchor_at A (i - 1)) (drop i A) ≡ prefix_count A → Counting A i count
 counting A i count s few lt e =
     let n = fresh_next (anchor_at A (i - 1)) A i lt in
     let one : suc i ≡ i + 1 = omega arith in

@@ -12,6 +12,7 @@ use Rattle.std.specs.Int.Bits.{bit_or}
 use Rattle.row_words.specs.declared.rows.ItemRow.{ItemRow}
 use Rattle.key_bytes.specs.Common.{lcp}
 use Rattle.key_bytes.specs.Order.{is_same}
+use Rattle.key_bytes.proofs.Conditions.{or_false}
 use Rattle.key_bytes.proofs.Orders.{same_is, same_itself}
 use Rattle.anchor_rules.specs.Anchors.{Anchors, with_split}
 use Rattle.anchor_rules.specs.Items.{Item, begins, begins_end, is_prefix, item, shared}
@@ -35,10 +36,6 @@ and_true false = refl
 or_true : (x : Bool) → (x || true) ≡ true
 or_true true = refl
 or_true false = refl
-
-or_false : (x : Bool) → (x || false) ≡ x
-or_false true = refl
-or_false false = refl
 
 same_number : (x : ℕ) → (x == x) ≡ true
 same_number x = eq-eqb x x refl

@@ -16,7 +16,8 @@ use Rattle.meta_trie.specs.Trie.{Says, bucket_of, Holds, IsFound, Walked, used_o
 use Rattle.meta_trie.specs.Words.{Changed, Unlinked}
 use Rattle.meta_trie.specs.Grows.{mixed}
 use Rattle.meta_trie.specs.Shrinks.{Shrinks, shrunk_by, Shrinking}
-use Rattle.meta_trie.proofs.Owners.{some_same, live_kept}
+use Rattle.key_bytes.proofs.Conditions.{some_same}
+use Rattle.meta_trie.proofs.Owners.{live_kept}
 use Rattle.meta_trie.proofs.Changing.{changed, changed-owner}
 use Rattle.meta_trie.proofs.Unlinking.{Removable, removable, unlinked, unlinked_other}
 use Rattle.meta_trie.proofs.Holding.{holds_same, holds_same-owner}

@@ -26,3 +26,5 @@ pub mod TopMarks
 pub mod Dropping
 pub mod Copies
 pub mod Merging
+pub mod Room
+pub mod Turning

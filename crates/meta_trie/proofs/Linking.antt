@@ -11,7 +11,7 @@ use Rattle.anchor_rules.specs.Items.{Item}
 use Rattle.meta_trie.specs.Trie.{Says, Entry, bucket_of, Chain, Stands, Names, Apart, Spare, Unlike, Among, HasEntry, Holds, named_free, free_after, used_of, free_of}
 use Rattle.meta_trie.specs.Words.{Linked, SameAnchors, with_item}
 use Rattle.key_bytes.proofs.Orders.{same_is, same_itself}
-use Rattle.meta_trie.proofs.Lists.{not_same}
+use Rattle.meta_trie.proofs.Changing.{with_here, with_other}
 
 -- what an option is not
 some_none : {X : Type 0} (o : Option X) (x : X) → o ≡ Some x → o ≡ None → ⊥
@@ -53,12 +53,6 @@ others k ws known owner b i name (e ∷ es) n m s o = (
   (λ at. some_none (owner e.at) e.name o.0 (ap owner at ∙ n), λ same. some_none (known e.name) s.0.said.0 s.0.said.1 (ap known same ∙ m)),
   others k ws known owner b i name es n m s.1 o.1,
 )
-
-with_other : (known : List ℕ → Option Item) (name : List ℕ) (it : Item) (p : List ℕ) → p ≢ name → with_item known name it p ≡ known p
-with_other known name it p ne = ap (λ (t : Bool). if t then Some it else known p) (not_same p name ne)
-
-with_here : (known : List ℕ → Option Item) (name : List ℕ) (it : Item) → with_item known name it name ≡ Some it
-with_here known name it = ap (λ (t : Bool). if t then Some it else known name) (same_itself name)
 
 live_same : (k : Shape) (old new : List ℕ) → SameAnchors k old new → (leaf : ℕ) → IsLive k old leaf → IsLive k new leaf
 live_same k old new same leaf live = let e = (same leaf live).0 in (live.0, omega (arith, e, live.1), omega (arith, e, live.2))

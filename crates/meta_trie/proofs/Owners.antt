@@ -2,14 +2,12 @@
 use Rattle.std.proofs.Common.{◌≡◌, ◌≢◌, ℕ, ◌<◌, inl, inr, List, [], ◌∷◌, Option, Some, sym, ap, ◌∙◌, subst, arith}
 use Rattle.std.specs.List.{AllByRecursion}
 use Rattle.std.proofs.lemmas.Bool.{cases_order}
+use Rattle.key_bytes.proofs.Conditions.{some_same}
 use Rattle.anchor_rules.specs.Items.{Item}
 use Rattle.row_words.specs.declared.shape.Shape.{Shape}
 use Rattle.row_words.specs.Decode.{item_at, IsLive}
 use Rattle.meta_trie.specs.Trie.{Entry, bucket_of, Chain, Stands, Names, Apart, HasEntry, named_free, Spare, Holds}
 use Rattle.meta_trie.specs.Words.{SameAnchors}
-
-pub some_same : (a b : List ℕ) → Some a ≡ Some b → a ≡ b
-some_same a b e = cc
 
 -- an entry is that of this place exactly where it is that of this prefix
 abbrev pub IsIt : ℕ → List ℕ → Entry → Type 0

@@ -5,6 +5,7 @@ use Rattle.std.specs.List.{AllByRecursion}
 use mathlib.Core.Bool.{false≢true}
 use Rattle.std.proofs.lemmas.Bool.{ne_eqb, eqb-false}
 use Rattle.key_bytes.specs.Order.{is_same}
+use Rattle.key_bytes.proofs.Conditions.{some_same}
 use Rattle.key_bytes.proofs.Orders.{same_itself}
 use Rattle.anchor_rules.specs.Items.{Item}
 use Rattle.anchor_rules.proofs.ItemParts.{all_both, all_parts}
@@ -14,7 +15,7 @@ use Rattle.row_words.specs.Decode.{head_at, item_at, anchor_at, IsLive}
 use Rattle.meta_trie.specs.Trie.{Says, Entry, bucket_of, Chain, Stands, Names, Apart, HasEntry, Spare, Among, Holds, last_link, IsFound}
 use Rattle.meta_trie.specs.declared.finds.Found.{Found}
 use Rattle.meta_trie.specs.Words.{Unlinked, without_item}
-use Rattle.meta_trie.proofs.Owners.{IsIt, its, some_same, chain_kept, spare_kept, live_kept}
+use Rattle.meta_trie.proofs.Owners.{IsIt, its, chain_kept, spare_kept, live_kept}
 use Rattle.meta_trie.proofs.Lists.{not_same, all_at}
 
 -- without one in the middle

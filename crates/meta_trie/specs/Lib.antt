@@ -4,3 +4,4 @@ pub mod Words
 pub mod Grows
 pub mod Fits
 pub mod Shrinks
+pub mod Lags

@@ -11,6 +11,7 @@ ghost use Rattle.meta_trie.specs.Grows.{back_count};
 
 use crate::grows::grow;
 use crate::leaf_rows::add_row;
+use crate::removes::anchor_bytes;
 use key_bytes::Key;
 use map_model::TableFull;
 use row_words::layout::{LIVE_WORD, LONGEST_ANCHOR, LONGEST_WORD, UPPER, USED_WORD};
@@ -39,6 +40,29 @@ pub fn add_anchor<R: RowsMut>(
     ensures stays { R.stays rows.old rows.new }
 {
     add_counting::<R, Brand>(rows, left, anchor.bytes(), leaf, Blank::new(1))
+}
+
+/// [`add_anchor`] for an anchor that lies in words, as in a row of another table. It takes no memory
+/// either.
+pub fn add_anchor_words<R: RowsMut>(
+    rows: &mut R,
+    left: u32,
+    anchor: &AnchorWords,
+    leaf: u32,
+) -> Result<(), TableFull>
+    requires key { IsKey anchor.now }
+    requires table { CanSplit (R.shape rows.old) (R.words rows.old) left anchor.now leaf }
+    requires leaf { leaf < (R.shape rows.old).leaves }
+    ensures ok { OnOk result ((A : Anchors) → StandsFor (R.shape rows.old) (R.words rows.old) A → StandsFor (R.shape rows.old) (R.words rows.new) (with_split A left anchor.now leaf)) }
+    ensures room { OnOk result ((A : Anchors) → StandsFor (R.shape rows.old) (R.words rows.old) A → FitsSplit (R.shape rows.old) A left anchor.now) }
+    ensures full { IfErr result (λ full. (A : Anchors) → StandsFor (R.shape rows.old) (R.words rows.old) A → AreItemsFull (R.shape rows.old) A left anchor.now full) }
+    ensures unchanged { OnErr result (R.words rows.new ≡ R.words rows.old) }
+    ensures shape { R.shape rows.new ≡ R.shape rows.old }
+    ensures stays { R.stays rows.old rows.new }
+{
+    let bytes = anchor_bytes(anchor);
+    let anchor = &bytes[..anchor.len()];
+    add_counting::<R, Brand>(rows, left, anchor, leaf, Blank::new(1))
 }
 
 /// [`add_anchor`], with a counter for the steps of its looks.

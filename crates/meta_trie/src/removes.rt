@@ -56,7 +56,7 @@ fn remove_counting<R: RowsMut, L: Ledger>(rows: &mut R, leaf: u32, blank: Blank)
 }
 
 /// The bytes of an anchor, with zeros behind them.
-fn anchor_bytes(anchor: &AnchorWords) -> [u8; LONGEST_ANCHOR]
+pub(crate) fn anchor_bytes(anchor: &AnchorWords) -> [u8; LONGEST_ANCHOR]
     requires { length anchor.now < LONGEST_ANCHOR + 1 }
     ensures { take (length anchor.now) result ≡ anchor.now }
 {
