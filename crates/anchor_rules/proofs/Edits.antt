@@ -4,6 +4,7 @@ use mathlib.Core.Logic.{dite}
 use native.Mathlib.Decide.{ℕ_discrete}
 use Rattle.std.specs.List.{AllByRecursion}
 use Rattle.key_bytes.specs.Order.{is_below}
+use Rattle.key_bytes.proofs.Conditions.{some_same}
 use Rattle.key_bytes.proofs.Orders.{below_trans, not_below_itself}
 use Rattle.anchor_rules.specs.Anchors.{Anchors, Span, is_before, next_anchor, span, Rises, AreAnchors, with_split, with_merge}
 use Rattle.anchor_rules.proofs.Spans.{Over, over_next, span_here, span_later, no_span}
@@ -22,9 +23,6 @@ same_start a b s t e = ap (start_of a) e
 same_end : (a b : List ℕ) (s t : Option (List ℕ)) → ◌≡◌ {A = Option Span} (Some (a, s)) (Some (b, t)) → s ≡ t
 same_end a b s t e = ap end_of e
 
-some_is : (a b : List ℕ) → Some a ≡ Some b → a ≡ b
-some_is a b e = cc
-
 -- spans among anchors above a key lie above it
 over_start : (key : List ℕ) (xs : Anchors) (leaf : ℕ) (lo : List ℕ) (hi : Option (List ℕ)) → Over key xs → span xs leaf ≡ Some (lo, hi) → is_below key lo ≡ true
 over_start key [] leaf lo hi over e = absurd (cc)
@@ -38,7 +36,7 @@ over_end key (x ∷ []) leaf lo mid over e = dite (ℕ_discrete x.1 leaf)
     (λ same. let f = same_end x.0 lo None (Some mid) (sym (span_here x [] leaf same) ∙ e) in absurd (cc))
     (λ ne. let f : None ≡ Some (lo, Some mid) = sym (span_later x [] leaf ne) ∙ e in absurd (cc))
 over_end key (x ∷ y ∷ ys) leaf lo mid over e = dite (ℕ_discrete x.1 leaf)
-    (λ same. subst (λ a. is_below key a ≡ true) (some_is y.0 mid (same_end x.0 lo (Some y.0) (Some mid) (sym (span_here x (y ∷ ys) leaf same) ∙ e))) over.1.0)
+    (λ same. subst (λ a. is_below key a ≡ true) (some_same y.0 mid (same_end x.0 lo (Some y.0) (Some mid) (sym (span_here x (y ∷ ys) leaf same) ∙ e))) over.1.0)
     (λ ne. over_end key (y ∷ ys) leaf lo mid over.1 (sym (span_later x (y ∷ ys) leaf ne) ∙ e))
 
 pub split_here : (x : List ℕ × ℕ) (xs : Anchors) (l : ℕ) (a : List ℕ) (r : ℕ) → x.1 ≡ l → with_split (x ∷ xs) l a r ≡ x ∷ (a, r) ∷ xs
@@ -140,7 +138,7 @@ module _ (l r : ℕ) (apart : l ≢ r) (lo mid : List ℕ) (hi : Option (List �
       beside [] rises e f = absurd (cc)
       beside (y ∷ ys) rises e f =
           let low = same_start x.0 lo (Some y.0) (Some mid) e in
-          let at = some_is y.0 mid (same_end x.0 lo (Some y.0) (Some mid) e) in
+          let at = some_same y.0 mid (same_end x.0 lo (Some y.0) (Some mid) e) in
           let yr = head_right x y ys rises at f in
           let high = same_end y.0 mid (next_anchor ys) hi (sym (span_here y ys r yr) ∙ f) in
           ap (λ A. Some (x.0, next_anchor A)) (merge_here y ys r yr) ∙ (ap (λ k. Some (k, next_anchor ys)) low ∙ ap (λ h. Some (lo, h)) high)
@@ -164,7 +162,7 @@ module _ (l r : ℕ) (apart : l ≢ r) (lo mid : List ℕ) (hi : Option (List �
       next_to : (zs : Anchors) → Rises (x ∷ zs) → ◌≡◌ {A = Option Span} (Some (x.0, next_anchor zs)) (Some (lo, Some mid)) → span zs r ≡ Some (mid, hi) → span (with_merge zs r) i ≡ span zs i
       next_to [] rises e f = refl
       next_to (y ∷ ys) rises e f =
-          let yr = head_right x y ys rises (some_is y.0 mid (same_end x.0 lo (Some y.0) (Some mid) e)) f in
+          let yr = head_right x y ys rises (some_same y.0 mid (same_end x.0 lo (Some y.0) (Some mid) e)) f in
           ap (λ A. span A i) (merge_here y ys r yr) ∙ sym (span_later y ys i (λ q. nr (sym q ∙ yr)))
 
   merge_none : (A : Anchors) (i : ℕ) → span A i ≡ None → span (with_merge A r) i ≡ None

@@ -6,6 +6,7 @@ use Rattle.std.proofs.lemmas.Bool.{cases_order}
 use Rattle.std.proofs.lemmas.List.{append-nil}
 use Rattle.key_bytes.specs.Order.{is_below, is_same}
 use Rattle.key_bytes.proofs.Orders.{below_trans, below_not_back, not_below_itself, same_is, same_itself}
+use Rattle.key_bytes.proofs.Conditions.{some_same}
 use Rattle.anchor_rules.specs.Anchors.{Anchors, next_anchor, target_from, target, Rises, AreAnchors}
 use Rattle.anchor_rules.specs.Items.{Item, begins, under, is_prefix, is_anchor_of, first_leaf, last_leaf, item, IsLongest, leaf_before, greatest_below, end_by, ends_at}
 use Rattle.anchor_rules.proofs.Prefixes.{heads_less, heads_more, below_after, below_longer, not_below_prefix, begins_is, begins_longer, not_same_not_begun, past_prefix, ahead_prefix}
@@ -223,9 +224,6 @@ leaf_before_at (x ∷ z ∷ front) y a leaf back rises =
 pub last_one : (x : List ℕ × ℕ) (xs : Anchors) → (ys : Anchors) × ((y : List ℕ × ℕ) × (x ∷ xs ≡ ys ++ y ∷ []))
 last_one x [] = ([], (x, refl))
 last_one x (z ∷ xs) = let rest = last_one z xs in (x ∷ rest.0, (rest.1.0, ap (λ (l : Anchors). x ∷ l) rest.1.1))
-
-some_same : (a b : List ℕ) → Some a ≡ Some b → a ≡ b
-some_same a b e = cc
 
 pub begins_empty : (p : List ℕ) → begins p [] ≡ true → p ≡ []
 begins_empty [] h = refl

@@ -13,6 +13,7 @@ use Rattle.key_bytes.proofs.Orders.{bytes_cmp-back, below_trans, not_below_empty
 use Rattle.std.proofs.lemmas.Iterator.Adapters.{position_from-zero}
 use Rattle.std.proofs.Math.Seq.{drop-nil}
 use Rattle.std.proofs.lemmas.List.Quantifiers.{position-Some}
+use Rattle.key_bytes.specs.declared.limits.TheConstants.{LONGEST_KEY}
 use Rattle.anchor_rules.specs.Anchors.{Anchors, Span, anchor_at, leaf_at, next_anchor, span, has_leaf, target, Rises, AreAnchors, AreShort, cuts, splits, with_split, adjacent, with_merge}
 use Rattle.anchor_rules.specs.Closing.{is_closed}
 use Rattle.anchor_rules.specs.Places.{place_in, is_next, IsEndFor}
@@ -94,11 +95,11 @@ merge_found A l r i are next e =
     ap (with_merge A) (sym (next_is A (i + 1) r is)) ∙ merge_at A (i + 1) are.rises (next_behind A (i + 1) r is)
 
 -- their lengths stay those of keys
-pub split_short : (A : Anchors) (l : ℕ) (a : List ℕ) (r : ℕ) → AreShort A → length a < 256 → AreShort (with_split A l a r)
-split_short A l a r short lt = all_split (λ (x : List ℕ × ℕ). length x.0 < 256) A l a r short lt
+pub split_short : (A : Anchors) (l : ℕ) (a : List ℕ) (r : ℕ) → AreShort A → length a < LONGEST_KEY + 1 → AreShort (with_split A l a r)
+split_short A l a r short lt = all_split (λ (x : List ℕ × ℕ). length x.0 < LONGEST_KEY + 1) A l a r short lt
 
 pub merge_short : (A : Anchors) (l r : ℕ) → AreAnchors A → adjacent A l r ≡ true → AreShort A → AreShort (with_merge A r)
-merge_short A l r are next short = let m = meet A l r are.rises next in all_merge l r m.apart m.low m.middle m.high (λ (x : List ℕ × ℕ). length x.0 < 256) A short
+merge_short A l r are next short = let m = meet A l r are.rises next in all_merge l r m.apart m.low m.middle m.high (λ (x : List ℕ × ℕ). length x.0 < LONGEST_KEY + 1) A short
 
 -- the anchors ascend after a merge too
 pub merge_keeps : (A : Anchors) (l r : ℕ) → AreAnchors A → adjacent A l r ≡ true → AreAnchors (with_merge A r)

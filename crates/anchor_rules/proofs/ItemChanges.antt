@@ -10,6 +10,7 @@ use Rattle.std.proofs.lemmas.List.Elements.{filter-append}
 use Rattle.key_bytes.specs.Common.{lcp}
 use Rattle.key_bytes.specs.Order.{is_below, is_same}
 use Rattle.key_bytes.proofs.Orders.{below_trans, below_not_same, below_not_same_back, not_below_itself, same_is}
+use Rattle.key_bytes.proofs.Conditions.{or_false, some_same}
 use Rattle.anchor_rules.specs.Anchors.{Anchors, Span, is_before, in_span, span, next_anchor, Rises, AreAnchors, with_split, with_merge}
 use Rattle.anchor_rules.specs.Items.{Item, begins, begins_end, under, is_prefix, is_anchor_of, first_leaf, last_leaf, item, leaf_after, shared}
 use Rattle.anchor_rules.proofs.Prefixes.{begins_take, begins_take_lcp, lcp_sym}
@@ -159,9 +160,6 @@ pub leaf_after_at : (front : Anchors) (a : List ℕ) (right : ℕ) (back : Ancho
 leaf_after_at [] a right back r = ap (λ (b : Bool). cond b (first_leaf back) (leaf_after back right)) (eq-eqb right right refl)
 leaf_after_at (x ∷ front) a right back r = ap (λ (b : Bool). cond b (first_leaf (front ++ (a, right) ∷ back)) (leaf_after (front ++ (a, right) ∷ back) right)) (ne_eqb x.1 right (leaf_apart front x a right back r)) ∙ leaf_after_at front a right back r.2
 
-some_same : (a b : List ℕ) → Some a ≡ Some b → a ≡ b
-some_same a b e = cc
-
 inside : (a : List ℕ) (hi : Option (List ℕ)) → is_before hi a ≡ true → in_span (a, hi) a ≡ true
 inside a hi before = ap (λ (b : Bool). not b && is_before hi a) (not_below_itself a) ∙ before
 
@@ -201,10 +199,6 @@ or_right false y h e = h
 or_left : (x y : Bool) → (x || y) ≡ true → y ≡ false → x ≡ true
 or_left true y h e = refl
 or_left false y h e = absurd (false≢true (sym e ∙ h))
-
-or_false : (x : Bool) → (x || false) ≡ x
-or_false true = refl
-or_false false = refl
 
 some_item_is : (x y : Item) → Some x ≡ Some y → x ≡ y
 some_item_is x y e = cc

@@ -5,6 +5,7 @@ use Rattle.std.specs.List.{AllByRecursion, filter, list_any}
 use mathlib.Core.Bool.{false≢true}
 use Rattle.std.proofs.lemmas.List.Elements.{filter-append}
 use Rattle.key_bytes.specs.Order.{is_below, is_same}
+use Rattle.key_bytes.proofs.Conditions.{or_false}
 use Rattle.anchor_rules.specs.Anchors.{Anchors, is_before, next_anchor, Rises}
 use Rattle.anchor_rules.specs.Items.{Item, begins, begins_end, under, is_prefix, is_anchor_of, first_leaf, last_leaf, item}
 use Rattle.anchor_rules.proofs.Prefixes.{begins_between, begins_not_longer, not_same_not_begun}
@@ -32,10 +33,6 @@ or_last false false false = refl
 or_through : (x l y : Bool) → (x || (l || y)) ≡ ((x || l) || y)
 or_through true l y = refl
 or_through false l y = refl
-
-or_false : (x : Bool) → (x || false) ≡ x
-or_false true = refl
-or_false false = refl
 
 any_split : {X : Type 0} (f : X → Bool) (front : List X) (x y : X) (back : List X) → list_any f (front ++ x ∷ y ∷ back) ≡ (list_any f (front ++ x ∷ back) || f y)
 any_split f [] x y back = or_last (f x) (f y) (list_any f back)

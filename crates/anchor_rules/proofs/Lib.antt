@@ -13,3 +13,4 @@ pub mod Parts
 pub mod Sizes
 pub mod Neighbours
 pub mod Longest
+pub mod Searching

@@ -4,6 +4,7 @@ use mathlib.Core.Logic.{dite}
 use native.Mathlib.Decide.{ℕ_discrete}
 use Rattle.std.specs.List.{AllByRecursion}
 use Rattle.key_bytes.specs.Order.{is_below}
+use Rattle.key_bytes.proofs.Conditions.{and_left, and_right, some_same}
 use Rattle.key_bytes.proofs.Orders.{below_trans, below_not_back, below_through, not_below_empty, not_below_itself}
 use Rattle.anchor_rules.specs.Anchors.{Anchors, Span, is_before, in_span, next_anchor, span, target_from, target, Rises, AreAnchors, Disjoint}
 
@@ -11,14 +12,6 @@ use Rattle.anchor_rules.specs.Anchors.{Anchors, Span, is_before, in_span, next_a
 pub all_weaker : {X : Type 0} (P Q : X → Type 0) → ((x : X) → P x → Q x) → (xs : List X) → AllByRecursion P xs → AllByRecursion Q xs
 all_weaker P Q weaker [] all = tt
 all_weaker P Q weaker (x ∷ xs) all = (weaker x all.0, all_weaker P Q weaker xs all.1)
-
-and_left : (x y : Bool) → (x && y) ≡ true → x ≡ true
-and_left true y e = refl
-and_left false y e = e
-
-and_right : (x y : Bool) → (x && y) ≡ true → y ≡ true
-and_right true y e = e
-and_right false y e = absurd (true≢false (sym e))
 
 not_true : (x : Bool) → not x ≡ true → x ≡ false
 not_true true e = absurd (true≢false (sym e))
@@ -90,20 +83,17 @@ unique x (y ∷ ys) key leaf s rises low e has = dite (ℕ_discrete x.1 leaf)
     let z = reach (is_below key y.0) refl in
     unique y ys key leaf s rises.2 z f has ∙ ap (λ b. target_from (cond b x.1 y.1) ys key) (sym z))
 
-first_is : (a b : List ℕ) → Some a ≡ Some b → a ≡ b
-first_is a b e = cc
-
 pub in_target : (A : Anchors) → AreAnchors A → (key : List ℕ) → (s : Span) × (span A (target A key) ≡ Some s) × (in_span s key ≡ true)
 in_target [] are key = absurd (cc (are.first))
 in_target (x ∷ xs) are key =
-    let low : is_below key x.0 ≡ false = subst (λ a. is_below key a ≡ false) (sym (first_is x.0 [] are.first)) (not_below_empty key) in
+    let low : is_below key x.0 ≡ false = subst (λ a. is_below key a ≡ false) (sym (some_same x.0 [] are.first)) (not_below_empty key) in
     let h = covered x xs key are.rises low in
     (h.0, ap (λ b. span (x ∷ xs) (target_from (cond b 0 x.1) xs key)) low ∙ h.1, h.2)
 
 pub only_target : (A : Anchors) → AreAnchors A → (key : List ℕ) (leaf : ℕ) (s : Span) → span A leaf ≡ Some s → in_span s key ≡ true → leaf ≡ target A key
 only_target [] are key leaf s e has = absurd (cc (are.first))
 only_target (x ∷ xs) are key leaf s e has =
-    let low : is_below key x.0 ≡ false = subst (λ a. is_below key a ≡ false) (sym (first_is x.0 [] are.first)) (not_below_empty key) in
+    let low : is_below key x.0 ≡ false = subst (λ a. is_below key a ≡ false) (sym (some_same x.0 [] are.first)) (not_below_empty key) in
     unique x xs key leaf s are.rises low e has ∙ ap (λ b. target_from (cond b 0 x.1) xs key) (sym low)
 
 pub disjoint : (A : Anchors) → AreAnchors A → Disjoint A

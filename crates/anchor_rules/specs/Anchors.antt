@@ -1,7 +1,8 @@
 -- Anchors with their leaves, and the spans of keys between them.
-use Rattle.std.specs.Prelude.{◌≡◌, ℕ, ◌<◌, List, [], ◌∷◌, length, Bool, true, false, not, ◌&&◌, ◌||◌, ◌==◌, if◌then◌else◌, Option, Some, None, is_some, slice_index_or}
+use Rattle.std.specs.Prelude.{◌≡◌, ℕ, ◌+◌, ◌<◌, List, [], ◌∷◌, length, Bool, true, false, not, ◌&&◌, ◌||◌, ◌==◌, if◌then◌else◌, Option, Some, None, is_some, slice_index_or}
 use Rattle.std.specs.List.{AllByRecursion}
 use Rattle.key_bytes.specs.Order.{is_below}
+use Rattle.key_bytes.specs.declared.limits.TheConstants.{LONGEST_KEY}
 
 -- each anchor with its leaf
 abbrev pub Anchors : Type 0
@@ -61,7 +62,7 @@ pub record AreAnchors (A : Anchors) : Type 0 where
 
 -- no anchor is longer than a key may be
 abbrev pub AreShort : Anchors → Type 0
-AreShort A = AllByRecursion (λ (x : List ℕ × ℕ). length x.0 < 256) A
+AreShort A = AllByRecursion (λ (x : List ℕ × ℕ). length x.0 < LONGEST_KEY + 1) A
 
 -- no key is in the spans of two leaves
 abbrev pub Disjoint : Anchors → Type 0

@@ -6,7 +6,7 @@ ghost use Rattle.anchor_rules.specs.Anchors.{AreAnchors, AreShort, Span, anchor_
 ghost use Rattle.anchor_rules.specs.Closing.{is_closed};
 ghost use Rattle.anchor_rules.specs.Places.{place_in, is_next, IsEndFor};
 
-use key_bytes::{Bytes, Key};
+use key_bytes::{Bytes, Key, LONGEST_KEY};
 use std::alloc::{AllocError, Global};
 use std::marker::Model;
 
@@ -116,7 +116,7 @@ impl Anchors {
         ensures split { OnOk result (self.new ≡ anchors.with_split self.old leaf anchor new_leaf) }
         ensures refused { OnErr result (self.new ≡ self.old) }
     {
-        prove!(anchor.bytes().len() < 256);
+        prove!(anchor.bytes().len() <= LONGEST_KEY);
         match place_of(&self.rows, leaf) {
             Some(i) => {
                 let alloc = *self.rows.allocator();

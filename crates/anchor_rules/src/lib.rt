@@ -3,7 +3,9 @@
 #![tactic(auto)]
 
 mod anchors;
+mod laws;
 #[cfg(test)]
 mod tests;
 
 pub use anchors::Anchors;
+pub use laws::{changed_spans, closed_apart, search_ends};
