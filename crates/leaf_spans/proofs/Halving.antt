@@ -21,6 +21,7 @@ use Rattle.map_model.proofs.Halves as halves
 use Rattle.map_model.proofs.Halves.{stay_less, key_at-all, parting_above, parting_within, parting_stay, parting_go}
 use Rattle.map_model.proofs.Parts.{keep_keep}
 use Rattle.leaf_spans.specs.Spread.{Spread, inside, size_in}
+use Rattle.leaf_spans.proofs.Ranges.{and_parts}
 use Rattle.leaf_spans.proofs.Spreads.{inside_up}
 
 -- what holds of all pairs holds of those in a span
@@ -36,10 +37,6 @@ module _ {V : Type 0} (m : Pairs V) (o : Option Span) (up : IsMap m) (many : 1 <
   -- and it could be a key itself
   pub parting_key : AllByRecursion (λ (p : List ℕ × V). IsKey p.0) m → IsKey (parting (inside o m))
   parting_key all = halves.parting_key (inside o m) (inside_up m up o) many (all_inside (λ (p : List ℕ × V). IsKey p.0) m o all)
-
-and_parts : (x y : Bool) → (not x && y) ≡ true → (x ≡ false) × (y ≡ true)
-and_parts true y e = absurd (true≢false (sym e))
-and_parts false y e = (refl, e)
 
 -- the parting anchor cuts the leaf's span
 pub parting_splits : {V : Type 0} (A : Anchors) (m : Pairs V) (l r : ℕ) → IsMap m → 1 < length (inside (span A l) m) → has_leaf A r ≡ false → splits A l (parting (inside (span A l) m)) r ≡ true

@@ -42,7 +42,8 @@ stronger true q follows = refl
 stronger false true follows = absurd (true≢false (sym (follows refl)))
 stronger false false follows = refl
 
-and_parts : (x y : Bool) → (not x && y) ≡ true → (x ≡ false) × (y ≡ true)
+-- both tests of a span
+pub and_parts : (x y : Bool) → (not x && y) ≡ true → (x ≡ false) × (y ≡ true)
 and_parts true y e = absurd (true≢false (sym e))
 and_parts false y e = (refl, e)
 
