@@ -1,5 +1,5 @@
 -- A hash goes on from the hash of the bytes before.
-use Rattle.std.proofs.Common.{◌≡◌, ℕ, ◌<◌, ◌≤◌, List, [], ◌∷◌, ◌++◌, length, take, drop, get_or, zero, suc, refl, ◌∙◌, arith}
+use Rattle.std.proofs.Common.{◌≡◌, ℕ, ◌<◌, List, [], ◌∷◌, ◌++◌, length, take, get_or, zero, suc, refl, ◌∙◌, arith}
 use Rattle.key_bytes.specs.Fnv.{fnv_start, fnv_step, hash_from, prefix_hash}
 
 pub hash_from-nil : (hash : ℕ) → hash_from hash [] ≡ hash
@@ -45,15 +45,3 @@ prefix_hash-push salt xs x = hash_from-push (fnv_start salt) xs x
 pub prefix_hash-take : (salt i : ℕ) (xs : List ℕ) (d : ℕ) → i < length xs → prefix_hash salt (take (suc i) xs) ≡ fnv_step (prefix_hash salt (take i xs)) (get_or xs i d)
 unfolding prefix_hash
 prefix_hash-take salt i xs d below = hash_from-take (fnv_start salt) i xs d below
-
--- from a beginning to a longer one, as a search that goes up does
-pub hash_from-longer : (hash i j : ℕ) (xs : List ℕ) → i ≤ j → hash_from hash (take j xs) ≡ hash_from (hash_from hash (take i xs)) (drop i (take j xs))
-unfolding hash_from
-hash_from-longer hash zero j xs le = refl
-hash_from-longer hash (suc i) zero xs le = absurd (omega arith)
-hash_from-longer hash (suc i) (suc j) [] le = refl
-hash_from-longer hash (suc i) (suc j) (x ∷ xs) le = hash_from-longer (fnv_step hash x) i j xs (omega arith)
-
-pub prefix_hash-longer : (salt i j : ℕ) (xs : List ℕ) → i ≤ j → prefix_hash salt (take j xs) ≡ hash_from (prefix_hash salt (take i xs)) (drop i (take j xs))
-unfolding prefix_hash
-prefix_hash-longer salt i j xs le = hash_from-longer (fnv_start salt) i j xs le

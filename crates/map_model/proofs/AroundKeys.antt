@@ -62,11 +62,7 @@ module _ (front back : Pairs (List ℕ)) (key : List ℕ) (lower : AllBelow key 
       (all_weaker (λ (p : Pair). is_below p.0 key ≡ true) (λ (p : Pair). other p ≡ true) (λ p h. ap not (below_not_same p.0 key h)) front lower)
       (all_weaker (λ (p : Pair). is_below key p.0 ≡ true) (λ (p : Pair). other p ≡ true) (λ p h. ap not (below_not_same_back key p.0 h)) back upper))
 
--- the parts of an ascending list ascend, and the pairs around one are below and above it
-pub ascending_front : (front back : Pairs (List ℕ)) → IsMap (front ++ back) → IsMap front
-ascending_front [] back up = tt
-ascending_front (p ∷ front) back up = ((all_parts (λ (q : Pair). is_below p.0 q.0 ≡ true) front back up.0).0, ascending_front front back up.1)
-
+-- the end of an ascending list ascends, and the pairs around one are below and above it
 pub ascending_back : (front back : Pairs (List ℕ)) → IsMap (front ++ back) → IsMap back
 ascending_back [] back up = up
 ascending_back (p ∷ front) back up = ascending_back front back up.1

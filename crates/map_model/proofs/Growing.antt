@@ -1,6 +1,5 @@
 -- One stretch of a history after another.
-use Rattle.std.proofs.Common.{◌≡◌, ℕ, List, [], ◌∷◌, ◌++◌, Bool, true, false, sym, ap, subst, ◌∙◌, append_assoc, length}
-use mathlib.Core.Bool.{false≢true}
+use Rattle.std.proofs.Common.{◌≡◌, ℕ, List, [], ◌∷◌, ◌++◌, Bool, sym, ap, subst, ◌∙◌, append_assoc, length}
 use Rattle.std.proofs.lemmas.List.{append-nil}
 use Rattle.map_model.specs.History.{Entry, IsLegal, own, entry_of}
 use Rattle.map_model.specs.Calls.{Call, Reply}
@@ -29,10 +28,6 @@ grows_more lane sole E F old mid new p q = record {
 
 pub stays : (lane : ℕ) (sole : Bool) (old : List Entry) → IsLegal old → Stays lane sole old old
 stays lane sole old legal = record { begins = begins_itself old; legal = legal; mine = sym (append-nil (own lane old)); alone = λ is. sym (append-nil old) }
-
--- what is so of a lane that is alone is so of one that isn't
-pub grows_among : (lane : ℕ) (E : List Entry) (old new : List Entry) → Grows lane true E old new → Grows lane false E old new
-grows_among lane E old new p = record { begins = p.begins; legal = p.legal; mine = p.mine; alone = λ is. absurd (false≢true is) }
 
 -- where a lane has no new entry, its next one is the same
 pub same_entry : (lane : ℕ) (sole : Bool) (call : Call) (reply : Reply) (old mid : List Entry) → Stays lane sole old mid → entry_of lane mid call reply ≡ entry_of lane old call reply

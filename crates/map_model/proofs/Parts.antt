@@ -10,10 +10,9 @@ use Rattle.key_bytes.specs.Bound.{bound_cmp, is_under}
 use Rattle.key_bytes.specs.declared.bound.Bound.{Bound}
 use Rattle.key_bytes.specs.declared.bound.Bound.TheVariants.{Low, At, High}
 use Rattle.key_bytes.proofs.Orders.{below_through, bound_same, bound_cmp-back, not_under_higher, under_higher}
-use Rattle.map_model.specs.Maps.{Pairs, IsMap, find, keep, with, without, is_in, between}
+use Rattle.map_model.specs.Maps.{Pairs, IsMap, find, keep, is_in, between}
 use Rattle.map_model.proofs.Filters.{filter_all, filter_none, all_append, all_pass, all_weaker}
 use Rattle.map_model.proofs.Finds.{find_keep, ascending_keep, same_map}
-use Rattle.map_model.proofs.Kept.{keep_with, keep_with_other, keep_without, keep_without_other}
 
 -- keys under an end are under each end that isn't below it
 pub under_within : (a b : Bound) (k : List ℕ) → bound_cmp a b ≢ Greater → is_under a k ≡ true → is_under b k ≡ true
@@ -104,10 +103,7 @@ module _ {V : Type 0} (mid : List ℕ) where
 
 -- what is between two ends
 module _ {V : Type 0} (m : Pairs V) where
-  pub between_all : between m Low High ≡ m
-  between_all = filter_all (λ (p : List ℕ × V). is_in Low High p.0) m (all_pass (λ (p : List ℕ × V). is_in Low High p.0 ≡ true) (λ p. refl) m)
-
-  -- nothing is, where the lower one isn't below
+  -- nothing is between two ends of which the lower one isn't below
   pub between_none : (from upto : Bound) → bound_cmp from upto ≢ Less → between m from upto ≡ []
   between_none from upto not_less = filter_none (λ (p : List ℕ × V). is_in from upto p.0) m (all_pass (λ (p : List ℕ × V). is_in from upto p.0 ≡ false) (λ p. in_none from upto p.0 not_less) m)
 
@@ -118,20 +114,6 @@ module _ {V : Type 0} (m : Pairs V) where
       let lows : keep (is_under mid) whole ≡ between m from mid = keep_keep m up (is_in from upto) (is_under mid) (is_in from mid) (λ k. front_test (is_under from k) (is_under mid k) (is_under upto k) (under_within mid upto k le')) in
       let highs : keep (λ k. not (is_under mid k)) whole ≡ between m mid upto = keep_keep m up (is_in from upto) (λ k. not (is_under mid k)) (is_in mid upto) (λ k. back_test (is_under from k) (is_under mid k) (is_under upto k) (under_within from mid k le)) in
       ap (λ (t : Pairs V). t ++ between m mid upto) (sym lows) ∙ (ap (λ (t : Pairs V). keep (is_under mid) whole ++ t) (sym highs) ∙ keep_split mid whole (ascending_keep (is_in from upto) m up))
-
--- a change at a key, as seen between two ends
-module _ {V : Type 0} (m : Pairs V) (up : IsMap m) (from upto : Bound) (key : List ℕ) where
-  pub between_with : (value : V) → is_in from upto key ≡ true → between (with m key value) from upto ≡ with (between m from upto) key value
-  between_with value within = keep_with (is_in from upto) m up key value within
-
-  pub between_with_other : (value : V) → is_in from upto key ≡ false → between (with m key value) from upto ≡ between m from upto
-  between_with_other value outside = keep_with_other (is_in from upto) m up key value outside
-
-  pub between_without : between (without m key) from upto ≡ without (between m from upto) key
-  between_without = keep_without (is_in from upto) m up key
-
-  pub between_without_other : is_in from upto key ≡ false → between (without m key) from upto ≡ between m from upto
-  between_without_other outside = keep_without_other (is_in from upto) m up key outside
 
 -- other values at the same keys
 module _ {V W : Type 0} (f : V → W) where
