@@ -6,5 +6,6 @@ pub mod PartEnds
 pub mod Partners
 pub mod Ranges
 pub mod Replies
+pub mod Shortest
 pub mod Sizes
 pub mod Spreads

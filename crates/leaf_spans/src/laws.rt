@@ -1,12 +1,13 @@
 //! Laws of maps that lie over the leaves of anchors, each leaf having just the keys in its span.
-ghost use Rattle.std.specs.Prelude.{◌≡◌, ◌≢◌, ◌+◌, ◌-◌, ◌*◌, ◌/◌, ◌<◌, ◌≤◌, ◌∷◌, ◌++◌, ◌⊎◌, ℕ, List, [], length, Option, Some, None, true, false};
+ghost use Rattle.std.specs.Prelude.{◌≡◌, ◌≢◌, ◌+◌, ◌-◌, ◌*◌, ◌/◌, ◌<◌, ◌≤◌, ◌∷◌, ◌++◌, ◌⊎◌, ℕ, List, [], length, take, Option, Some, None, true, false};
 ghost use Rattle.std.specs.List.{AllByRecursion};
 ghost use Rattle.std.specs.Option.{option_map};
+ghost use Rattle.key_bytes.specs.Order.{is_below};
 ghost use Rattle.key_bytes.specs.declared.bound.Bound.TheVariants.{Low, At, High};
 ghost use Rattle.anchor_rules.specs.Anchors.{Anchors, AreAnchors, Span, adjacent, has_leaf, span, splits, target, with_merge, with_split};
 ghost use Rattle.anchor_rules.specs.Neighbours.{IsBefore, IsBehind};
 ghost use Rattle.map_model.specs.Calls.{Call, answer_of, map_after};
-ghost use Rattle.map_model.specs.Halves.{lower_half, map_values, parting, upper_half};
+ghost use Rattle.map_model.specs.Halves.{key_at, lower_half, map_values, parting, stay_count, upper_half};
 ghost use Rattle.map_model.specs.Maps.{IsMap, Pairs, between, find, with, without};
 ghost use Rattle.leaf_spans.specs.Calls.{CountsNew, Lies};
 ghost use Rattle.leaf_spans.specs.Counting.{AreFew, Counted};
@@ -16,10 +17,12 @@ ghost use Rattle.leaf_spans.specs.declared.decisions.Side.TheVariants.{Left, Rig
 ghost use Rattle.leaf_spans.specs.declared.decisions.Wanted.TheVariants.{Merge, Nothing};
 
 /// The key that parts the halves of a map is above all keys of the lower half, and above none of the
-/// upper one. Values don't count.
+/// upper one; and of the beginnings of the first key there no shorter one is. Values don't count.
 pub fn parted_halves<V, W>()
     ensures lower { (m : Pairs V) → IsMap m → 1 < length m → between m Low (At (parting m)) ≡ lower_half m }
     ensures upper { (m : Pairs V) → IsMap m → 1 < length m → between m (At (parting m)) High ≡ upper_half m }
+    ensures shortest { (m : Pairs V) → IsMap m → 1 < length m → (n : ℕ) → n < length (parting m)
+        → is_below (key_at m (stay_count (length m) - 1)) (take n (key_at m (stay_count (length m)))) ≡ false }
     ensures values { (f : V → W) (m : Pairs V) → parting (map_values f m) ≡ parting m }
 {}
 
