@@ -1,5 +1,5 @@
 -- Reading the text of a request gives the request back.
-use Rattle.std.proofs.Common.{◌≡◌, ℕ, ◌*◌, ◌<◌, ◌≤◌, ◌^◌, true, false, cond, eqb, ltb, leb, not, ◌&&◌, List, [], ◌∷◌, ◌++◌, length, All, codes, decimal, None, Some, Ok, Err, refl, sym, ap, ◌∙◌, subst, arith, length-append}
+use Rattle.std.proofs.Common.{◌+◌, ◌≡◌, ℕ, ◌*◌, ◌<◌, ◌≤◌, ◌^◌, true, false, cond, eqb, ltb, leb, not, ◌&&◌, List, [], ◌∷◌, ◌++◌, length, All, codes, decimal, None, Some, Ok, Err, refl, sym, ap, ◌∙◌, subst, arith, length-append}
 use Rattle.std.specs.List.{join_with_byte, list_all}
 use Rattle.std.specs.Str.{bytes_eq, all_ascii_digits}
 use Rattle.std.specs.Str.Parse.{digits_value}
@@ -13,6 +13,8 @@ use Rattle.percent_encoding.proofs.PercentLemmas.{IsByte}
 use Rattle.key_bytes.specs.Lengths.{IsKey, AreBytes}
 use Rattle.key_bytes.specs.declared.bound.Bound.{Bound}
 use Rattle.key_bytes.specs.declared.bound.Bound.TheVariants.{Low, At, High}
+use Rattle.key_bytes.specs.declared.limits.TheConstants.{LONGEST_KEY, LONGEST_VALUE}
+use Rattle.line_reader.specs.declared.limits.TheConstants.{LONGEST_LINE}
 use Rattle.line_protocol.specs.Escape.{is_plain, escape_byte, escape, unescape, IsWordByte}
 use Rattle.line_protocol.specs.Words.{is_space, words_of}
 use Rattle.line_protocol.specs.Parts.{is_key, key_of, value_of, end_of, limit_of}
@@ -20,6 +22,7 @@ use Rattle.line_protocol.specs.Requests.{and_then, asked, request, IsValue, IsEn
 use Rattle.line_protocol.specs.RequestText.{end_word, request_text}
 use Rattle.line_protocol.specs.declared.fault.Fault.TheVariants.{Key, Limit, Line}
 use Rattle.line_protocol.specs.declared.fault.RequestFault.TheVariants.{Fault}
+use Rattle.line_protocol.specs.declared.parts.TheConstants.{LIMIT_DIGITS, MOST_SCANNED}
 use Rattle.line_protocol.specs.declared.request.Request.{Request}
 use Rattle.line_protocol.specs.declared.request.Request.TheVariants.{Put, Get, Del, Scan, Quit}
 use Rattle.line_protocol.proofs.Escapes.{read_again, word_bytes}
@@ -55,7 +58,7 @@ length-escape (b ∷ bytes) = omega (arith, length-append (escape_byte b) (escap
 key_again : (key : List ℕ) → IsKey key → is_key (unescape (escape key)) ≡ true
 key_again key k =
     ap is_key (read_again key (All-from_recursion IsByte key k.2))
-    ∙ and_from (ltb 0 (length key)) (ltb (length key) 256) (lt-ltb 0 (length key) k.0) (lt-ltb (length key) 256 k.1)
+    ∙ and_from (ltb 0 (length key)) (ltb (length key) (LONGEST_KEY + 1)) (lt-ltb 0 (length key) k.0) (lt-ltb (length key) (LONGEST_KEY + 1) k.1)
 
 key_of-escape : (key : List ℕ) → IsKey key → key_of (escape key) ≡ Ok key
 key_of-escape key k =
@@ -65,7 +68,7 @@ key_of-escape key k =
 value_of-escape : (value : List ℕ) → IsValue value → value_of (escape value) ≡ Ok value
 value_of-escape value v =
     let same = read_again value (All-from_recursion IsByte value v.1) in
-    cond-true (leb (length (unescape (escape value))) 1024) (Ok (unescape (escape value))) _ (le-leb (length (unescape (escape value))) 1024 (omega (arith, ap length same, v.0)))
+    cond-true (leb (length (unescape (escape value))) LONGEST_VALUE) (Ok (unescape (escape value))) _ (le-leb (length (unescape (escape value))) LONGEST_VALUE (omega (arith, ap length same, v.0)))
     ∙ ap (λ bytes. Ok bytes) same
 
 low_is_not_high : Low ≡ High → ⊥
@@ -97,20 +100,20 @@ upper_again High upper = refl
 numerals : IsNumeralModel (λ ds. all_ascii_digits ds ≡ true) (digits_value 10)
 numerals = numerals_by_value (λ ds. all_ascii_digits ds ≡ true) tells_all_ascii_digits
 
-limit_of-decimal : (n : ℕ) → n ≤ 1000000 → limit_of (decimal n) ≡ Ok n
+limit_of-decimal : (n : ℕ) → n ≤ MOST_SCANNED → limit_of (decimal n) ≡ Ok n
 limit_of-decimal n small =
     let fits : n < 2 ^ 64 = omega arith in
     let word = decimal n in
     let numeral = decimal_is_IsNumeral n fits in
     let some = lt-ltb 0 (length word) numeral.0.0 in
-    let few = le-leb (length word) 7 (length-decimal-le 7 n (omega arith) (omega arith) fits) in
+    let few = le-leb (length word) LIMIT_DIGITS (length-decimal-le 7 n (omega arith) (omega arith) fits) in
     let digits = numerals.from word numeral.0.1 in
-    let low = le-leb (digits_value 10 word) 1000000 (omega (arith, numeral.1)) in
-    cond-true (ltb 0 (length word) && leb (length word) 7 && all_ascii_digits word && leb (digits_value 10 word) 1000000) (Ok (digits_value 10 word)) (Err (Fault Limit))
+    let low = le-leb (digits_value 10 word) MOST_SCANNED (omega (arith, numeral.1)) in
+    cond-true (ltb 0 (length word) && leb (length word) LIMIT_DIGITS && all_ascii_digits word && leb (digits_value 10 word) MOST_SCANNED) (Ok (digits_value 10 word)) (Err (Fault Limit))
     (and_from _ _ (and_from _ _ (and_from _ _ some few) digits) low)
     ∙ ap (λ m. Ok m) numeral.1
 
-clean_decimal : (n : ℕ) → n ≤ 1000000 → HasNoSpace (decimal n)
+clean_decimal : (n : ℕ) → n ≤ MOST_SCANNED → HasNoSpace (decimal n)
 clean_decimal n small =
     let fits : n < 2 ^ 64 = omega arith in
     let digits = (decimal_is_IsNumeral n fits).0.1 in
@@ -126,11 +129,11 @@ length-end bare Low is = omega arith
 length-end bare (At key) is = omega (arith, length-escape key, is.1)
 length-end bare High is = omega arith
 
--- a line of 1 to 4,096 bytes is asked by its words
-by_words : (line : List ℕ) → 0 < length line → length line ≤ 4096 → request line ≡ asked (words_of line)
+-- a line that has bytes, and is not too long, is asked by its words
+by_words : (line : List ℕ) → 0 < length line → length line ≤ LONGEST_LINE → request line ≡ asked (words_of line)
 by_words line some short =
-    cond-false (eqb (length line) 0) (Ok None) (cond (ltb 4096 (length line)) (Err (Fault Line)) (asked (words_of line))) (ne_eqb (length line) 0 (λ e. absurd (omega (arith, e, some))))
-    ∙ cond-false (ltb 4096 (length line)) (Err (Fault Line)) (asked (words_of line)) (le-ltb 4096 (length line) short)
+    cond-false (eqb (length line) 0) (Ok None) (cond (ltb LONGEST_LINE (length line)) (Err (Fault Line)) (asked (words_of line))) (ne_eqb (length line) 0 (λ e. absurd (omega (arith, e, some))))
+    ∙ cond-false (ltb LONGEST_LINE (length line)) (Err (Fault Line)) (asked (words_of line)) (le-ltb LONGEST_LINE (length line) short)
 
 -- a word whose bytes are tested has no space
 clean_literal : (word : List ℕ) → list_all (λ b. not (is_space b)) word ≡ true → HasNoSpace word
@@ -172,7 +175,7 @@ del_again key k =
     ∙ ap asked (words_of-join (codes "DEL") (word ∷ []) (clean_literal (codes "DEL") refl) (one_clean word (clean_escape key k.2)))
     ∙ ap (λ r. and_then r (λ a. Ok (Some (Del a)))) (key_of-escape key k)
 
-scan_again : (from upto : Bound) (limit : ℕ) → IsEnd Low from → IsEnd High upto → limit ≤ 1000000 → request (request_text (Scan from upto limit)) ≡ Ok (Some (Scan from upto limit))
+scan_again : (from upto : Bound) (limit : ℕ) → IsEnd Low from → IsEnd High upto → limit ≤ MOST_SCANNED → request (request_text (Scan from upto limit)) ≡ Ok (Some (Scan from upto limit))
 scan_again from upto limit lower upper small =
     let first = end_word from in
     let second = end_word upto in

@@ -9,10 +9,11 @@ use Rattle.line_protocol.specs.Parts.{limit_of}
 use Rattle.line_protocol.specs.declared.fault.Fault.TheVariants.{Limit}
 use Rattle.line_protocol.specs.declared.fault.RequestFault.{RequestFault}
 use Rattle.line_protocol.specs.declared.fault.RequestFault.TheVariants.{Fault}
+use Rattle.line_protocol.specs.declared.parts.TheConstants.{LIMIT_DIGITS, MOST_SCANNED}
 
 -- the limit of digits behind the number that is read so far
 abbrev pub limit_from : ℕ → List ℕ → Result ℕ RequestFault
-limit_from n [] = cond (leb n 1000000) (Ok n) (Err (Fault Limit))
+limit_from n [] = cond (leb n MOST_SCANNED) (Ok n) (Err (Fault Limit))
 limit_from n (b ∷ digits) = cond (is_ascii_digit b) (limit_from (n * 10 + (b - 48)) digits) (Err (Fault Limit))
 
 digit_value_of : (b : ℕ) → is_ascii_digit b ≡ true → digit_value b ≡ b - 48
@@ -24,7 +25,7 @@ digit_value_of b digit =
 
 -- the limit, where all are digits and their number is small
 abbrev pub limit_where : Bool → ℕ → Result ℕ RequestFault
-limit_where digits n = cond (digits && leb n 1000000) (Ok n) (Err (Fault Limit))
+limit_where digits n = cond (digits && leb n MOST_SCANNED) (Ok n) (Err (Fault Limit))
 
 limit_from_is : (n : ℕ) (word : List ℕ) → limit_from n word ≡ limit_where (all_ascii_digits word) (digits_value_after 10 n word)
 limit_from_is n [] = refl
@@ -43,17 +44,17 @@ limit_from_is n (b ∷ digits) =
 
 -- whether the word has 1 to 7 bytes
 abbrev pub has_length : List ℕ → Bool
-has_length word = ltb 0 (length word) && leb (length word) 7
+has_length word = ltb 0 (length word) && leb (length word) LIMIT_DIGITS
 
-pub limit_is : (word : List ℕ) → 0 < length word → length word ≤ 7 → limit_from 0 word ≡ limit_of word
+pub limit_is : (word : List ℕ) → 0 < length word → length word ≤ LIMIT_DIGITS → limit_from 0 word ≡ limit_of word
 limit_is word some few =
-    let here : has_length word ≡ true = and_from (ltb 0 (length word)) (leb (length word) 7) (lt-ltb 0 (length word) some) (le-leb (length word) 7 few) in
+    let here : has_length word ≡ true = and_from (ltb 0 (length word)) (leb (length word) LIMIT_DIGITS) (lt-ltb 0 (length word) some) (le-leb (length word) LIMIT_DIGITS few) in
     limit_from_is 0 word
-    ∙ ap (λ t. cond (t && all_ascii_digits word && leb (digits_value_after 10 0 word) 1000000) (Ok (digits_value_after 10 0 word)) (Err (Fault Limit))) (sym here)
+    ∙ ap (λ t. cond (t && all_ascii_digits word && leb (digits_value_after 10 0 word) MOST_SCANNED) (Ok (digits_value_after 10 0 word)) (Err (Fault Limit))) (sym here)
 
 pub limit_off : (word : List ℕ) → has_length word ≡ false → limit_of word ≡ Err (Fault Limit)
 limit_off word off =
-    ap (λ t. cond (t && all_ascii_digits word && leb (digits_value_after 10 0 word) 1000000) (Ok (digits_value_after 10 0 word)) (Err (Fault Limit))) off
+    ap (λ t. cond (t && all_ascii_digits word && leb (digits_value_after 10 0 word) MOST_SCANNED) (Ok (digits_value_after 10 0 word)) (Err (Fault Limit))) off
 
 -- at a byte that is no digit
 pub limit_stops : (n i : ℕ) (word : List ℕ) → i < length word → is_ascii_digit (get_or word i 0) ≡ false → limit_from n (drop i word) ≡ Err (Fault Limit)

@@ -8,6 +8,7 @@ use Rattle.std.proofs.lemmas.List.Elements.{filter-append}
 use Rattle.line_reader.specs.Cut.{ended_lines, open_part, last_line}
 use Rattle.line_reader.proofs.Cutting.{lines_are, ended_lines-append, open_part-append}
 use Rattle.key_bytes.specs.declared.bound.Bound.TheVariants.{Low, High}
+use Rattle.line_reader.specs.declared.limits.TheConstants.{LONGEST_LINE}
 use Rattle.line_protocol.specs.declared.fault.Fault.TheVariants.{Line}
 use Rattle.line_protocol.specs.declared.fault.RequestFault.{RequestFault}
 use Rattle.line_protocol.specs.declared.fault.RequestFault.TheVariants.{Fault}
@@ -121,10 +122,10 @@ empty_line (b ∷ line) none = absurd (omega (arith, none))
 pub request_none : (line : List ℕ) → request line ≡ Ok None → line ≡ []
 request_none line =
     cond_both (eqb (length line) 0) _ _ (OnlyEmpty line) (λ none e. empty_line line (eqb-true (length line) 0 none))
-    (λ _. cond_both (ltb 4096 (length line)) _ _ (OnlyEmpty line) (λ _. some_only line (Err (Fault Line)) tt) (λ _. some_only line (asked (words_of line)) (asked_some (words_of line))))
+    (λ _. cond_both (ltb LONGEST_LINE (length line)) _ _ (OnlyEmpty line) (λ _. some_only line (Err (Fault Line)) tt) (λ _. some_only line (asked (words_of line)) (asked_some (words_of line))))
 
 -- a line that is too long is at fault for that
-pub request_long : (line : List ℕ) → 4096 < length line → request line ≡ Err (Fault Line)
+pub request_long : (line : List ℕ) → LONGEST_LINE < length line → request line ≡ Err (Fault Line)
 request_long line long =
     cond-false (eqb (length line) 0) (Ok None) _ (ne_eqb (length line) 0 (λ e. absurd (omega (arith, e, long))))
-    ∙ cond-true (ltb 4096 (length line)) (Err (Fault Line)) (asked (words_of line)) (lt-ltb 4096 (length line) long)
+    ∙ cond-true (ltb LONGEST_LINE (length line)) (Err (Fault Line)) (asked (words_of line)) (lt-ltb LONGEST_LINE (length line) long)

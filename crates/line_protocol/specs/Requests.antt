@@ -4,11 +4,14 @@ use Rattle.std.specs.Str.{bytes_eq}
 use Rattle.key_bytes.specs.Lengths.{IsKey, AreBytes}
 use Rattle.key_bytes.specs.declared.bound.Bound.{Bound}
 use Rattle.key_bytes.specs.declared.bound.Bound.TheVariants.{Low, At, High}
+use Rattle.key_bytes.specs.declared.limits.TheConstants.{LONGEST_VALUE}
+use Rattle.line_reader.specs.declared.limits.TheConstants.{LONGEST_LINE}
 use Rattle.line_protocol.specs.Words.{words_of, one, two, three}
 use Rattle.line_protocol.specs.Parts.{key_of, value_of, end_of, limit_of}
 use Rattle.line_protocol.specs.declared.fault.Fault.TheVariants.{Command, Words, Line}
 use Rattle.line_protocol.specs.declared.fault.RequestFault.{RequestFault}
 use Rattle.line_protocol.specs.declared.fault.RequestFault.TheVariants.{Fault}
+use Rattle.line_protocol.specs.declared.parts.TheConstants.{MOST_SCANNED}
 use Rattle.line_protocol.specs.declared.request.Request.{Request}
 use Rattle.line_protocol.specs.declared.request.Request.TheVariants.{Put, Get, Del, Scan, Quit}
 
@@ -75,7 +78,7 @@ asked (command ∷ words) =
 abbrev pub request : List ℕ → Asked
 request line =
     if length line == 0 then Ok None
-    else if nat_lt 4096 (length line) then Err (Fault Line)
+    else if nat_lt LONGEST_LINE (length line) then Err (Fault Line)
     else asked (words_of line)
 
 -- it asks for the end of the session
@@ -88,9 +91,9 @@ is_quit (Ok (Some (Scan from upto limit))) = false
 is_quit (Ok (Some Quit)) = true
 is_quit (Err fault) = false
 
--- 0 to 1,024 bytes
+-- no more bytes than a value may have
 abbrev pub IsValue : List ℕ → Type 0
-IsValue value = (length value ≤ 1024) × AreBytes value
+IsValue value = (length value ≤ LONGEST_VALUE) × AreBytes value
 
 -- an end of a scan is a key, or the one open end that it may be
 abbrev pub IsEnd : Bound → Bound → Type 0
@@ -103,7 +106,7 @@ abbrev pub IsRequest : Request → Type 0
 IsRequest (Put key value) = IsKey key × IsValue value
 IsRequest (Get key) = IsKey key
 IsRequest (Del key) = IsKey key
-IsRequest (Scan from upto limit) = IsEnd Low from × IsEnd High upto × (limit ≤ 1000000)
+IsRequest (Scan from upto limit) = IsEnd Low from × IsEnd High upto × (limit ≤ MOST_SCANNED)
 IsRequest Quit = Unit {0}
 
 -- what is asked, if anything, is a request

@@ -11,13 +11,13 @@ pub enum Fault {
     Command,
     /// The command has another number of words.
     Words,
-    /// A key, or an end of a scan, has 0 bytes or more than 255.
+    /// A key, or an end of a scan, has no byte, or more than a key may have.
     Key,
-    /// The value has more than 1,024 bytes.
+    /// The value has more bytes than a value may have.
     Value,
-    /// The limit isn't 1 to 7 decimal digits of a value of at most 1,000,000.
+    /// The limit isn't 1 to 7 decimal digits of a value of at most `MOST_SCANNED`.
     Limit,
-    /// The line has more than 4,096 bytes.
+    /// The line has more bytes than a line may have.
     Line,
 }
 

@@ -23,6 +23,7 @@ pub use answer::{Answer, pair_text, reply_text};
 pub use fault::{Fault, RequestFault};
 pub use laws::{escaped_words, one_line, request_again, unescape_again, worked_lines};
 pub use line_reader::{Event, Lines, Taken, read_all};
+pub use parts::MOST_SCANNED;
 pub use read::read_request;
 pub use request::Request;
 pub use scan_end::ScanEnd;

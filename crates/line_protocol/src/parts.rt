@@ -7,8 +7,14 @@ ghost use Rattle.line_protocol.specs.Requests.{IsEnd, IsValue};
 use crate::escape::{unescape, unescape_into};
 use crate::scan::has_byte;
 use crate::{Fault, RequestFault, Value};
-use key_bytes::{Bound, Key, KeyFault};
+use key_bytes::{Bound, Key, KeyFault, LONGEST_KEY, LONGEST_VALUE};
 use std::alloc::Global;
+
+/// The greatest limit that a scan may have, in pairs.
+pub const MOST_SCANNED: u32 = 1_000_000;
+
+/// How many digits a limit may have.
+const LIMIT_DIGITS: usize = 7;
 
 /// The key that a word stands for. Only the key itself takes memory.
 pub(crate) fn read_key(alloc: Global, word: &[u8]) -> Result<Key, RequestFault>
@@ -29,7 +35,7 @@ fn escaped_key(alloc: Global, word: &[u8]) -> Result<Key, RequestFault>
     ensures answers { Answers result (key_of word.now) }
     ensures key { IfOk result IsKey }
 {
-    let mut buffer = [0; 255];
+    let mut buffer = [0; LONGEST_KEY];
     match unescape_into(&mut buffer, word) {
         None => Err(RequestFault::Fault(Fault::Key)),
         Some(length) => copied_key(alloc, &buffer[..length]),
@@ -55,7 +61,7 @@ pub(crate) fn read_value(alloc: Global, word: &[u8]) -> Result<Value<'_>, Reques
     ensures value { IfOk result IsValue }
 {
     let bytes = unescape(alloc, word)?;
-    if bytes.as_slice().len() > 1024 {
+    if bytes.as_slice().len() > LONGEST_VALUE {
         return Err(RequestFault::Fault(Fault::Value));
     }
     Ok(Value::of(bytes))
@@ -76,9 +82,9 @@ pub(crate) fn read_end(alloc: Global, word: &[u8], bare: Bound) -> Result<Bound,
 /// The limit of a scan.
 pub(crate) fn read_limit(word: &[u8]) -> Result<u32, RequestFault>
     ensures limit { result ≡ limit_of word.now }
-    ensures most { IfOk result (λ limit. limit ≤ 1000000) }
+    ensures most { IfOk result (λ limit. limit ≤ MOST_SCANNED) }
 {
-    if word.is_empty() || word.len() > 7 {
+    if word.is_empty() || word.len() > LIMIT_DIGITS {
         return Err(RequestFault::Fault(Fault::Limit));
     }
     let mut limit: u32 = 0;
@@ -88,7 +94,7 @@ pub(crate) fn read_limit(word: &[u8]) -> Result<u32, RequestFault>
         }
         limit = limit * 10 + u32::from(*digit - b'0');
     }
-    if limit > 1_000_000 {
+    if limit > MOST_SCANNED {
         return Err(RequestFault::Fault(Fault::Limit));
     }
     Ok(limit)

@@ -8,13 +8,14 @@ use crate::parts::{read_end, read_key, read_limit, read_value};
 use crate::words::{first_word, one_word, three_words, two_words};
 use crate::{Fault, Request, RequestFault, ScanEnd};
 use key_bytes::Bound;
+use line_reader::LONGEST_LINE;
 use std::alloc::Global;
 
 /// The request of a line, or none for the empty one. A line with several faults has the first of
 /// them in the order of their numbers, and of two faulty keys the first. What is copied are keys and
 /// the value where it has escapes, once each; each end of a scan takes an allocation besides.
 pub fn read_request(alloc: Global, line: &[u8]) -> Result<Option<Request<'_>>, RequestFault>
-    requires { length line.now ≤ 4096 }
+    requires { length line.now ≤ LONGEST_LINE }
     ensures answers { Answers result (request line.now) }
     ensures none { (result ≡ Ok None) ↔ (line.now ≡ []) }
     ensures asks { IfOk result AsksRequest }

@@ -4,6 +4,7 @@ use Rattle.std.proofs.lemmas.Bool.{cond-true, cond-false, le-leb, lt-leb}
 use Rattle.std.proofs.Math.Nat.{pow-le-pow_right}
 use Rattle.line_protocol.specs.declared.fault.Fault.TheVariants.{Limit}
 use Rattle.line_protocol.specs.declared.fault.RequestFault.TheVariants.{Fault}
+use Rattle.line_protocol.specs.declared.parts.TheConstants.{LIMIT_DIGITS, MOST_SCANNED}
 use Rattle.line_protocol.proofs.Limits.{limit_is, limit_stops, limit_ends}
 use Rattle.line_protocol.proofs.parts.read_limit.Goals as goal
 
@@ -26,26 +27,26 @@ returns-then-not-is_ascii_digit-clause-limit c =
     let word = c.args.word.now in
     let i = c.loop-digit.digit-index in
     let within : i < length word = omega arith in
-    let few : length word ≤ 7 = omega arith in
+    let few : length word ≤ LIMIT_DIGITS = omega arith in
     let other : is_ascii_digit (get_or word i 0) ≡ false = sym c.is_ascii_digit.ensures.value ∙ c.if-not-is_ascii_digit.true in
     sym (limit_stops c.loop-digit.limit i word within other) ∙ c.loop-digit.invariant.digits ∙ limit_is word (omega arith) few
 
-pub returns-then-limit-gt1000000-clause-limit : goal.returns-then-limit-gt1000000-clause-limit
-returns-then-limit-gt1000000-clause-limit c =
+pub returns-then-limit-gt-MOST_SCANNED-clause-limit : goal.returns-then-limit-gt-MOST_SCANNED-clause-limit
+returns-then-limit-gt-MOST_SCANNED-clause-limit c =
     let word = c.args.word.now in
     let n = c.loop-digit.limit in
     let some : 0 < length word = search rules in
-    let few : length word ≤ 7 = omega arith in
+    let few : length word ≤ LIMIT_DIGITS = omega arith in
     let past : length word ≤ c.loop-digit.digit-index = omega arith in
-    let large : leb n 1000000 ≡ false = lt-leb n 1000000 (omega arith) in
-    sym (cond-false (leb n 1000000) (Ok n) (Err (Fault Limit)) large) ∙ sym (limit_ends n c.loop-digit.digit-index word past) ∙ c.loop-digit.invariant.digits ∙ limit_is word some few
+    let large : leb n MOST_SCANNED ≡ false = lt-leb n MOST_SCANNED (omega arith) in
+    sym (cond-false (leb n MOST_SCANNED) (Ok n) (Err (Fault Limit)) large) ∙ sym (limit_ends n c.loop-digit.digit-index word past) ∙ c.loop-digit.invariant.digits ∙ limit_is word some few
 
 pub returns-clause-limit : goal.returns-clause-limit
 returns-clause-limit c =
     let word = c.args.word.now in
     let n = c.loop-digit.limit in
     let some : 0 < length word = search rules in
-    let few : length word ≤ 7 = omega arith in
+    let few : length word ≤ LIMIT_DIGITS = omega arith in
     let past : length word ≤ c.loop-digit.digit-index = omega arith in
-    let small : leb n 1000000 ≡ true = le-leb n 1000000 (omega arith) in
-    sym (cond-true (leb n 1000000) (Ok n) (Err (Fault Limit)) small) ∙ sym (limit_ends n c.loop-digit.digit-index word past) ∙ c.loop-digit.invariant.digits ∙ limit_is word some few
+    let small : leb n MOST_SCANNED ≡ true = le-leb n MOST_SCANNED (omega arith) in
+    sym (cond-true (leb n MOST_SCANNED) (Ok n) (Err (Fault Limit)) small) ∙ sym (limit_ends n c.loop-digit.digit-index word past) ∙ c.loop-digit.invariant.digits ∙ limit_is word some few
