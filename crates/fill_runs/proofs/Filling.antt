@@ -8,11 +8,12 @@ use Rattle.counts.specs.Counts.{Rose}
 use Rattle.map_model.specs.History.{Entry, IsLegal}
 use Rattle.map_model.specs.Ordered.{Follows}
 use Rattle.map_model.specs.declared.refusal.Refusal.{Refusal}
+use Rattle.map_model.proofs.Growing.{follows_weaker}
 use Rattle.outside.specs.Reading.{Told, Took, Ended}
 use Rattle.outside.specs.Writing.{Wrote}
 use Rattle.line_protocol.specs.Served.{served, quits}
 use Rattle.session.specs.Plain.{HasNoRefusal, plain_text, plain_output}
-use Rattle.session.specs.Sessions.{Session, Replies, TakenBy}
+use Rattle.session.specs.Sessions.{Session, Replies, InTurn, TakenBy}
 use Rattle.session.specs.declared.session.SessionEnd.{SessionEnd}
 use Rattle.session.specs.declared.session.SessionEnd.TheVariants as ends
 use Rattle.session.proofs.Gaining.{begins_then}
@@ -80,7 +81,7 @@ module _ (number count : ℕ) (small : count ≤ 2 ^ 32) (t : Told) (left : t.le
     all_by_quit s =
         let stays = (served_front s.bytes s.ended s.took s.answered).1 in
         let never : (old : List Entry) → a old → ⊥ = λ old is.
-        let r = (s.replies old is).2 in
+        let r = (s.replies old is).2.replies in
         let no : false ≡ true = sym stays ∙ (ap (list_any quits) (sym r.of_all.0) ∙ r.of_all.1) in cc in
         record { replies = λ old is. absurd (never old is); plain = λ alone new full memory. absurd (never [] new); complete = λ alone new room memory. absurd (never [] new); never_full = λ alone new room. absurd (never [] new) }
 
@@ -105,13 +106,13 @@ module _ (number count : ℕ) (small : count ≤ 2 ^ 32) (t : Told) (left : t.le
     all_by_end s =
         let answered = subst (Ended (Some t) u) s.taken.1 s.answered in
         let same : served s.bytes s.ended ≡ made number count = ap (served s.bytes) s.taken.1 ∙ served_all s.bytes s.took answered in
-        let of_made : (found : (h : List Entry) × b h × Replies ends.EndOfInput (served s.bytes s.ended) (Some []) (Some out) (Some 1) lane sole fits i j m n [] h) → sole ≡ true → Replies ends.EndOfInput (made number count) (Some []) (Some out) (Some 1) lane true fits i j m n [] found.0 = λ found alone.
-        subst (λ o. Replies ends.EndOfInput (made number count) (Some []) (Some out) (Some 1) lane o fits i j m n [] found.0) alone (subst (λ all. Replies ends.EndOfInput all (Some []) (Some out) (Some 1) lane sole fits i j m n [] found.0) same found.2) in record {
-          replies = subst (λ all. Follows a b (Replies ends.EndOfInput all (Some []) (Some out) (Some 1) lane sole fits i j m n)) same s.replies;
+        let of_made : (found : (h : List Entry) × b h × InTurn ends.EndOfInput (served s.front false) (served s.bytes s.ended) (Some []) (Some out) (Some 1) lane sole fits i j m n [] h) → sole ≡ true → Replies ends.EndOfInput (made number count) (Some []) (Some out) (Some 1) lane true fits i j m n [] found.0 = λ found alone.
+        subst (λ o. Replies ends.EndOfInput (made number count) (Some []) (Some out) (Some 1) lane o fits i j m n [] found.0) alone (subst (λ all. Replies ends.EndOfInput all (Some []) (Some out) (Some 1) lane sole fits i j m n [] found.0) same found.2.replies) in record {
+          replies = subst (λ all. Follows a b (Replies ends.EndOfInput all (Some []) (Some out) (Some 1) lane sole fits i j m n)) same (follows_weaker a b _ _ (λ old new p. p.replies) s.replies);
           plain = λ alone new full memory.
               let p = plain_session ends.EndOfInput (2 ^ 40) (Some t) u (Some []) (Some out) (Some 1) lane fits i j m n a b new (subst (λ o. Session ends.EndOfInput (2 ^ 40) (Some t) u (Some []) (Some out) (Some 1) lane o fits i j m n a b) alone s) in
               let told = same_written out p.output p.wrote in
-              let r = (s.replies [] new).2 in
+              let r = (s.replies [] new).2.replies in
               let none : HasNoRefusal out = subst HasNoRefusal (sym (same_written out r.output r.said)) (none_counted (Some 1) lane sole fits [] r.lines r.entries r.output r.transcript
               (ap (counted (codes "FULL")) (sym (same_written out r.output r.said)) ∙ full) (ap (counted (codes "NOMEM")) (sym (same_written out r.output r.said)) ∙ memory)) in
               let taken = all_taken t u p.bytes p.took (subst (Ended (Some t) u) p.taken.1 p.answered) ∙ left in
@@ -126,7 +127,7 @@ module _ (number count : ℕ) (small : count ≤ 2 ^ 32) (t : Told) (left : t.le
       out,
       λ old is.
           let f = s.replies old is in
-          let r = f.2 in (
+          let r = f.2.replies in (
             f.0,
             f.1,
             record {

@@ -6,11 +6,10 @@ ghost use Rattle.fill_runs.specs.Fills.{Filled, SaidBy, ServedBy};
 ghost use Rattle.fill_runs.specs.Summary.{summary};
 
 use crate::tally::Tally;
-use crate::writes::write_all;
 use generated_lines::Generated;
 use map_model::Ordered;
 use outside::{Sink, Stop};
-use session::{Bounded, SessionEnd, serve};
+use session::{Bounded, SessionEnd, serve, write_all};
 use std::alloc::Global;
 
 /// More bytes than any number of generated lines has: 2^40.

@@ -7,7 +7,6 @@ mod tally;
 #[cfg(test)]
 mod tests;
 mod words;
-mod writes;
 
 pub use fills::{FillEnd, fill};
 pub use tally::Tally;

@@ -5,6 +5,7 @@ pub mod Lanes
 pub mod Maps
 pub mod Ordered
 pub mod Pages
+pub mod Parts
 pub mod Places
 pub mod Plain
 pub mod Refusals

@@ -11,6 +11,7 @@ use Rattle.line_reader.specs.Told.{Told, tells, told, told_lines, last_told}
 use Rattle.line_reader.specs.declared.lines.Event.{Event}
 use Rattle.line_reader.specs.declared.lines.Event.TheVariants as events
 use Rattle.line_reader.specs.Told.Told.{Read, Long}
+use Rattle.line_reader.specs.declared.limits.TheConstants.{LONGEST_LINE}
 use Rattle.line_reader.proofs.Cutting.{lines_are}
 use Rattle.line_protocol.specs.Words.{words_of}
 use Rattle.line_protocol.specs.Requests.{Asked, asked, request, is_quit}
@@ -93,10 +94,10 @@ line_asks (b ∷ line) =
     let words = asked (words_of all) in
     ⊎_elim
     (λ long.
-    let is : request all ≡ fault = cond-false _ _ (cond (ltb 4096 (length all)) fault words) (not_empty (length line)) ∙ cond-true _ fault words long in
+    let is : request all ≡ fault = cond-false _ _ (cond (ltb LONGEST_LINE (length all)) fault words) (not_empty (length line)) ∙ cond-true _ fault words long in
     ap (λ r. r ∷ []) is ∙ ap asked_by (sym (cond-true _ Long (Read all) long)))
     (λ short. sym (any_asked (request all) (λ none. let no : b ∷ line ≡ [] = request_none all none in cc)) ∙ ap asked_by (sym (cond-false _ Long (Read all) short)))
-    (cases_Bool (ltb 4096 (length all)))
+    (cases_Bool (ltb LONGEST_LINE (length all)))
 
 lines_ask : (ls : List (List ℕ)) → map request (filter has_bytes ls) ≡ asked_by_all (map tells ls)
 lines_ask [] = refl

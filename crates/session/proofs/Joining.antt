@@ -13,7 +13,7 @@ use Rattle.line_protocol.specs.declared.fault.RequestFault.TheVariants as faults
 use Rattle.line_protocol.specs.declared.request.Request.TheVariants as asks
 use Rattle.line_protocol.specs.Requests.{Asked}
 use Rattle.session.specs.Patience.{IsLast}
-use Rattle.session.specs.Transcripts.{Exchange, HasNoRoom, IsRefused, IsServed, IsServedAs, AreServed, owed, EndsLast, entries_of, Transcribes}
+use Rattle.session.specs.Transcripts.{Exchange, HasNoRoom, IsRefused, IsServed, IsServedAs, AreServed, asked_of, entries_of, owed, EndsLast, Transcribes}
 
 -- where there are pieces, what was last before them doesn't matter
 ends_from : (x : Exchange) (pieces : List Exchange) (before other now : Option Refusal) → EndsLast (x ∷ pieces) before now → EndsLast (x ∷ pieces) other now
@@ -73,27 +73,27 @@ served-append limit lane sole fits seen (x ∷ p) q first second = (
 
 module _ (limit : Option ℕ) (lane : ℕ) (sole : Bool) (fits : List Entry → Type 0) where
   -- one stretch behind another
-  transcribes_join : (less : List Entry → Type 0) (i j k : ℕ) (u v w : Option Refusal) (A B C : List Asked → Type 0) (S T U : List ℕ → Type 0) (old mid new : List Entry)
-      → ((h : List Entry) → fits h → less h) → ((xs ys : List Asked) → A xs → B ys → C (xs ++ ys)) → ((xs ys : List ℕ) → S xs → T ys → U (xs ++ ys))
+  transcribes_join : (less : List Entry → Type 0) (i j k : ℕ) (u v w : Option Refusal) (A B C : List Asked → Type 0) (S T U : List Exchange → Type 0) (old mid new : List Entry)
+      → ((h : List Entry) → fits h → less h) → ((xs ys : List Asked) → A xs → B ys → C (xs ++ ys)) → ((xs ys : List Exchange) → A (asked_of xs) → S xs → T ys → U (xs ++ ys))
       → Transcribes limit lane sole fits i j u v A S old mid → Transcribes limit lane sole less j k v w B T mid new → Transcribes limit lane sole fits i k u w C U old new
   transcribes_join less i j k u v w A B C S T U old mid new fewer ask say p q = record {
     pieces = p.pieces ++ q.pieces;
     asked = subst C (sym (map-append (λ (x : Exchange). x.asked) p.pieces q.pieces)) (ask _ _ p.asked q.asked);
-    said = subst U (sym (flat_map-append (λ (x : Exchange). x.text) p.pieces q.pieces)) (say _ _ p.said q.said);
+    said = say _ _ p.asked p.said q.said;
     grows = subst (λ E. Grows lane sole E old new) (sym (flat_map-append (λ (x : Exchange). x.entries) p.pieces q.pieces)) (grows_more lane sole (entries_of p.pieces) (entries_of q.pieces) old mid new p.grows q.grows);
     each = served-append limit lane sole fits old p.pieces q.pieces p.each (are_served_at limit lane sole fits less fewer q.pieces (old ++ entries_of p.pieces) mid p.grows.alone q.each);
     rose = omega (arith, sum_by-append (owed limit) p.pieces q.pieces, p.rose, q.rose);
     ends = ends-append p.pieces q.pieces u v w p.ends q.ends;
   }
 
-  pub transcribes_then : (a b c : List Entry → Type 0) (less : List Entry → Type 0) (i j k : ℕ) (u v w : Option Refusal) (A B C : List Asked → Type 0) (S T U : List ℕ → Type 0)
-      → ((h : List Entry) → fits h → less h) → ((xs ys : List Asked) → A xs → B ys → C (xs ++ ys)) → ((xs ys : List ℕ) → S xs → T ys → U (xs ++ ys))
+  pub transcribes_then : (a b c : List Entry → Type 0) (less : List Entry → Type 0) (i j k : ℕ) (u v w : Option Refusal) (A B C : List Asked → Type 0) (S T U : List Exchange → Type 0)
+      → ((h : List Entry) → fits h → less h) → ((xs ys : List Asked) → A xs → B ys → C (xs ++ ys)) → ((xs ys : List Exchange) → A (asked_of xs) → S xs → T ys → U (xs ++ ys))
       → Follows a b (Transcribes limit lane sole fits i j u v A S) → Follows b c (Transcribes limit lane sole less j k v w B T) → Follows a c (Transcribes limit lane sole fits i k u w C U)
   transcribes_then a b c less i j k u v w A B C S T U fewer ask say = follows_then a b c _ _ _ (λ old mid new p q. transcribes_join less i j k u v w A B C S T U old mid new fewer ask say p q)
 
   -- what was asked and said is told otherwise
-  pub transcribes_told : (a b : List Entry → Type 0) (i j : ℕ) (u v : Option Refusal) (A B : List Asked → Type 0) (S T : List ℕ → Type 0)
-      → ((xs : List Asked) → A xs → B xs) → ((xs : List ℕ) → S xs → T xs) → Follows a b (Transcribes limit lane sole fits i j u v A S) → Follows a b (Transcribes limit lane sole fits i j u v B T)
+  pub transcribes_told : (a b : List Entry → Type 0) (i j : ℕ) (u v : Option Refusal) (A B : List Asked → Type 0) (S T : List Exchange → Type 0)
+      → ((xs : List Asked) → A xs → B xs) → ((xs : List Exchange) → S xs → T xs) → Follows a b (Transcribes limit lane sole fits i j u v A S) → Follows a b (Transcribes limit lane sole fits i j u v B T)
   transcribes_told a b i j u v A B S T ask say = follows_weaker a b _ _ (λ old new p. record {
     pieces = p.pieces;
     asked = ask _ p.asked;
@@ -104,8 +104,21 @@ module _ (limit : Option ℕ) (lane : ℕ) (sole : Bool) (fits : List Entry → 
     ends = p.ends;
   })
 
+  -- and by what was asked
+  pub transcribes_ends : (a b : List Entry → Type 0) (i j : ℕ) (u v : Option Refusal) (A B : List Asked → Type 0) (S T : List Exchange → Type 0)
+      → ((xs : List Asked) → A xs → B xs) → ((xs : List Exchange) → A (asked_of xs) → S xs → T xs) → Follows a b (Transcribes limit lane sole fits i j u v A S) → Follows a b (Transcribes limit lane sole fits i j u v B T)
+  transcribes_ends a b i j u v A B S T ask say = follows_weaker a b _ _ (λ old new p. record {
+    pieces = p.pieces;
+    asked = ask _ p.asked;
+    said = say _ p.asked p.said;
+    grows = p.grows;
+    each = p.each;
+    rose = p.rose;
+    ends = p.ends;
+  })
+
   -- nothing is asked
-  pub transcribes_none : (a : List Entry → Type 0) (i : ℕ) (u : Option Refusal) (A : List Asked → Type 0) (S : List ℕ → Type 0) → ((old : List Entry) → a old → IsLegal old) → A [] → S [] → Follows a a (Transcribes limit lane sole fits i i u u A S)
+  pub transcribes_none : (a : List Entry → Type 0) (i : ℕ) (u : Option Refusal) (A : List Asked → Type 0) (S : List Exchange → Type 0) → ((old : List Entry) → a old → IsLegal old) → A [] → S [] → Follows a a (Transcribes limit lane sole fits i i u u A S)
   transcribes_none a i u A S legal ask say = follows_itself a _ (λ old history. record {
     pieces = [];
     asked = ask;
@@ -117,12 +130,12 @@ module _ (limit : Option ℕ) (lane : ℕ) (sole : Bool) (fits : List Entry → 
   })
 
   -- one piece
-  pub transcribes_one : (i j : ℕ) (u v : Option Refusal) (A : List Asked → Type 0) (S : List ℕ → Type 0) (old new : List Entry) (x : Exchange)
-      → A (x.asked ∷ []) → S x.text → Grows lane sole x.entries old new → IsServed limit lane sole fits old x → RoseBy (owed limit x) i j → IsLast x.refused v → Transcribes limit lane sole fits i j u v A S old new
+  pub transcribes_one : (i j : ℕ) (u v : Option Refusal) (A : List Asked → Type 0) (S : List Exchange → Type 0) (old new : List Entry) (x : Exchange)
+      → A (x.asked ∷ []) → S (x ∷ []) → Grows lane sole x.entries old new → IsServed limit lane sole fits old x → RoseBy (owed limit x) i j → IsLast x.refused v → Transcribes limit lane sole fits i j u v A S old new
   transcribes_one i j u v A S old new x ask say grows served rose last = record {
     pieces = x ∷ [];
     asked = ask;
-    said = subst S (sym (append-nil x.text)) say;
+    said = say;
     grows = subst (λ E. Grows lane sole E old new) (sym (append-nil x.entries)) grows;
     each = (served, tt);
     rose = omega (arith, rose);
@@ -130,7 +143,7 @@ module _ (limit : Option ℕ) (lane : ℕ) (sole : Bool) (fits : List Entry → 
   }
 
   -- behind them the store rests or wakes
-  pub transcribes_rest : (a b c : List Entry → Type 0) (i j k : ℕ) (u v w : Option Refusal) (A : List Asked → Type 0) (S : List ℕ → Type 0) → k ≡ j → w ≡ v
+  pub transcribes_rest : (a b c : List Entry → Type 0) (i j k : ℕ) (u v w : Option Refusal) (A : List Asked → Type 0) (S : List Exchange → Type 0) → k ≡ j → w ≡ v
       → Follows a b (Transcribes limit lane sole fits i j u v A S) → Follows b c (λ old new. new ≡ old) → Follows a c (Transcribes limit lane sole fits i k u w A S)
   transcribes_rest a b c i j k u v w A S same last first second =
       follows_then a b c _ _ _ (λ old mid new p q. subst (λ n. Transcribes limit lane sole fits i k u w A S old n) (sym q) (subst (λ m. Transcribes limit lane sole fits i m u w A S old mid) (sym same) (subst (λ m. Transcribes limit lane sole fits i j u m A S old mid) (sym last) p))) first second

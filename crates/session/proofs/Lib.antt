@@ -6,3 +6,4 @@ pub mod PlainSessions
 pub mod PlainTexts
 pub mod Scanning
 pub mod SessionSteps
+pub mod Turning

@@ -13,8 +13,10 @@ use Rattle.line_protocol.specs.Requests.{Asked}
 use Rattle.session.specs.Patience.{IsCounted}
 use Rattle.session.specs.Replies.{reply_lines, refusal_line}
 use Rattle.session.specs.Transcripts.{Exchange, IsAnswered, IsRefused, IsTold, IsFull, HasNoRoom, IsServedAs, Transcribes}
-use Rattle.session.specs.Writes.{Reaches}
+use Rattle.session.specs.Turns.{WritesPieces}
+use Rattle.session.specs.Writes.{Gained, Reaches}
 use Rattle.session.proofs.Joining.{transcribes_one}
+use Rattle.session.proofs.Turning.{writes_one}
 
 -- where want of room isn't told, nothing is left to show of it
 pub not_full : (refusal : Refusal) → IsFull refusal → NotFull {T = Bool} (Err refusal) → ⊥
@@ -25,29 +27,29 @@ not_full NoMemory full none = full
 pub last_enters : (a b : List Entry → Type 0) (lane : ℕ) (sole : Bool) (call : calls.Call) (reply : calls.Reply) → Follows a b (EntersLast lane sole call reply) → Follows a b (Enters lane sole call reply)
 last_enters a b lane sole call reply = follows_weaker a b _ _ (λ old new p. p.enters)
 
-module _ (limit : Option ℕ) (lane : ℕ) (sole : Bool) (fits : List Entry → Type 0) (asked : Asked) (a b : List Entry → Type 0) (i j : ℕ) (u v : Option Refusal) (S : List ℕ → Type 0) where
+module _ (limit : Option ℕ) (lane : ℕ) (sole : Bool) (fits : List Entry → Type 0) (asked : Asked) (a b : List Entry → Type 0) (i j : ℕ) (u v : Option Refusal) where
   -- the call was answered
-  pub call_answered : (call : calls.Call) (reply : calls.Reply) → ((seen : List Entry) (x : Exchange) → IsAnswered call x → IsServedAs limit lane sole fits seen x asked)
-      → S (reply_lines reply) → i ≤ j → Follows a b (Enters lane sole call reply) → Follows a b (Transcribes limit lane sole fits i j u v (λ all. all ≡ asked ∷ []) S)
-  call_answered call reply serves say later = follows_weaker a b _ _ (λ old new grows.
+  pub call_answered : {T E : Type 0} (r : Result T E) (w z : Option (List ℕ)) (call : calls.Call) (reply : calls.Reply) → ((seen : List Entry) (x : Exchange) → IsAnswered call x → IsServedAs limit lane sole fits seen x asked)
+      → Gained r w z (reply_lines reply) → i ≤ j → Follows a b (Enters lane sole call reply) → Follows a b (Transcribes limit lane sole fits i j u v (λ all. all ≡ asked ∷ []) (WritesPieces r w z))
+  call_answered r w z call reply serves say later = follows_weaker a b _ _ (λ old new grows.
       let e = entry_of lane old call reply in
-      transcribes_one limit lane sole fits i j u v (λ all. all ≡ asked ∷ []) S old new (record { asked = asked; entries = e ∷ []; text = reply_lines reply; refused = None })
-      refl say grows (serves old _ (record { entry = e; only = refl; called = refl; line = refl; none = refl })) (omega (arith, later)) tt)
+      transcribes_one limit lane sole fits i j u v (λ all. all ≡ asked ∷ []) (WritesPieces r w z) old new (record { asked = asked; entries = e ∷ []; text = reply_lines reply; refused = None })
+      refl (writes_one r w z _ say) grows (serves old _ (record { entry = e; only = refl; called = refl; line = refl; none = refl })) (omega (arith, later)) tt)
 
   -- it was refused
-  pub call_refused : (call : calls.Call) (refusal : Refusal) → ((seen : List Entry) (x : Exchange) → IsRefused limit lane sole fits seen call x → IsServedAs limit lane sole fits seen x asked)
-      → S (refusal_line refusal) → IsCounted limit sole i j v refusal → ((seen : List Entry) → a seen → IsFull refusal → HasNoRoom lane sole fits seen call)
-      → Follows a b (Stays lane sole) → Follows a b (Transcribes limit lane sole fits i j u v (λ all. all ≡ asked ∷ []) S)
-  call_refused call refusal serves say counted room = follows_told a b _ _ (λ old new history grows.
-      transcribes_one limit lane sole fits i j u v (λ all. all ≡ asked ∷ []) S old new (record { asked = asked; entries = []; text = refusal_line refusal; refused = Some refusal })
-      refl say grows (serves old _ (record { refusal = refusal; none = refl; line = refl; told = refl; may = counted.may; room = room old history })) counted.rose counted.is_last)
+  pub call_refused : {T E : Type 0} (r : Result T E) (w z : Option (List ℕ)) (call : calls.Call) (refusal : Refusal) → ((seen : List Entry) (x : Exchange) → IsRefused limit lane sole fits seen call x → IsServedAs limit lane sole fits seen x asked)
+      → Gained r w z (refusal_line refusal) → IsCounted limit sole i j v refusal → ((seen : List Entry) → a seen → IsFull refusal → HasNoRoom lane sole fits seen call)
+      → Follows a b (Stays lane sole) → Follows a b (Transcribes limit lane sole fits i j u v (λ all. all ≡ asked ∷ []) (WritesPieces r w z))
+  call_refused r w z call refusal serves say counted room = follows_told a b _ _ (λ old new history grows.
+      transcribes_one limit lane sole fits i j u v (λ all. all ≡ asked ∷ []) (WritesPieces r w z) old new (record { asked = asked; entries = []; text = refusal_line refusal; refused = Some refusal })
+      refl (writes_one r w z _ say) grows (serves old _ (record { refusal = refusal; none = refl; line = refl; told = refl; may = counted.may; room = room old history })) counted.rose counted.is_last)
 
 -- a line that is answered without calls
-pub line_told : (limit : Option ℕ) (lane : ℕ) (sole : Bool) (fits : List Entry → Type 0) (asked : Asked) (a : List Entry → Type 0) (i : ℕ) (u : Option Refusal) (S : List ℕ → Type 0) (text : List ℕ)
-    → ((seen : List Entry) (x : Exchange) → IsTold text x → IsServedAs limit lane sole fits seen x asked) → ((old : List Entry) → a old → IsLegal old) → S text → Follows a a (Transcribes limit lane sole fits i i u u (λ all. all ≡ asked ∷ []) S)
-line_told limit lane sole fits asked a i u S text serves legal say = follows_itself a _ (λ old history.
-    transcribes_one limit lane sole fits i i u u (λ all. all ≡ asked ∷ []) S old old (record { asked = asked; entries = []; text = text; refused = None })
-    refl say (stays lane sole old (legal old history)) (serves old _ (record { none = refl; line = refl; untold = refl })) (omega arith) tt)
+pub line_told : {T E : Type 0} (limit : Option ℕ) (lane : ℕ) (sole : Bool) (fits : List Entry → Type 0) (asked : Asked) (a : List Entry → Type 0) (i : ℕ) (u : Option Refusal) (r : Result T E) (w z : Option (List ℕ)) (text : List ℕ)
+    → ((seen : List Entry) (x : Exchange) → IsTold text x → IsServedAs limit lane sole fits seen x asked) → ((old : List Entry) → a old → IsLegal old) → Gained r w z text → Follows a a (Transcribes limit lane sole fits i i u u (λ all. all ≡ asked ∷ []) (WritesPieces r w z))
+line_told limit lane sole fits asked a i u r w z text serves legal say = follows_itself a _ (λ old history.
+    transcribes_one limit lane sole fits i i u u (λ all. all ≡ asked ∷ []) (WritesPieces r w z) old old (record { asked = asked; entries = []; text = text; refused = None })
+    refl (writes_one r w z _ say) (stays lane sole old (legal old history)) (serves old _ (record { none = refl; line = refl; untold = refl })) (omega arith) tt)
 
 -- equal requests are asked for alike
 pub one_asked : (a b : Request) → a ≡ b → ◌≡◌ {A = List Asked} (Ok (Some a) ∷ []) (Ok (Some b) ∷ [])

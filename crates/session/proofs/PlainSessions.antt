@@ -87,7 +87,7 @@ unfoldable pub plain_session : (end : SessionEnd) (budget : ℕ) (t u : Option T
     → a [] → Session end budget t u w v limit lane true fits i j m n a b → PlainSession end budget t u w v
 plain_session end budget t u w v limit lane fits i j m n a b new s =
     let found = s.replies [] new in
-    let r = found.2 in
+    let r = found.2.replies in
     let legal : IsLegal r.entries = subst IsLegal (r.grows.alone refl) r.grows.legal in record {
       bytes = s.bytes;
       ended = s.ended;

@@ -31,7 +31,8 @@ use Rattle.line_protocol.specs.Texts.{text, pair_line}
 use Rattle.session.specs.Patience.{MayTell}
 use Rattle.session.specs.Plain.{scan_lines, plain_answer, plain_map, plain_from, IsLineStart, HasNoRefusal, BeginsPlain}
 use Rattle.session.specs.Replies.{refusal_line, end_line, pair_lines, reply_lines}
-use Rattle.session.specs.Scans.{pairs_in, pairs_of, AreParts, is_done, MayBreak, EndsScan}
+use Rattle.map_model.specs.Parts.{pairs_in, pairs_of}
+use Rattle.session.specs.Scans.{AreParts, is_done, MayBreak, EndsScan}
 use Rattle.session.specs.Transcripts.{Exchange, IsAnswered, HasNoRoom, IsFull, IsRefused, IsScanned, IsTold, IsServedAs, AreServed, asked_of, entries_of, text_of}
 use Rattle.session.proofs.Gaining.{begins_behind, begins_more, begins_then}
 use Rattle.session.proofs.Scanning.{take_over, take_none}

@@ -1,5 +1,5 @@
 -- A scan goes on by a part, and ends.
-use Rattle.std.proofs.Common.{◌≡◌, ◌≢◌, ◌≤◌, ◌<◌, ℕ, ◌+◌, ◌-◌, suc, zero, min, length, take, List, [], ◌∷◌, ◌++◌, Bool, true, false, not, ◌||◌, ◌==◌, refl, sym, ap, ◌∙◌, subst, Option, Some, None, Ok, Err, arith, length-append, length-take}
+use Rattle.std.proofs.Common.{◌≡◌, ◌≢◌, ◌≤◌, ◌<◌, ℕ, ◌+◌, ◌-◌, suc, zero, min, length, take, List, [], ◌∷◌, ◌++◌, Bool, true, false, not, ◌||◌, ◌==◌, refl, sym, ap, ◌∙◌, subst, Option, Some, None, Result, Ok, Err, arith, length-append, length-take}
 use Rattle.std.specs.Ordering.{is_lt}
 use Rattle.std.proofs.lemmas.List.{append-nil}
 use Rattle.std.proofs.lemmas.List.Concat.{flat_map-append}
@@ -11,6 +11,7 @@ use Rattle.map_model.specs.Maps.{Pairs}
 use Rattle.map_model.specs.Calls as calls
 use Rattle.map_model.specs.History.{Entry, IsLegal, entry_of}
 use Rattle.map_model.specs.Ordered.{Follows, Grows, EntersLast, Stays}
+use Rattle.map_model.specs.Parts.{pairs_in, pairs_of}
 use Rattle.map_model.specs.Refusals.{NotFull}
 use Rattle.map_model.specs.declared.refusal.Refusal.{Refusal}
 use Rattle.map_model.specs.declared.refusal.Refusal.TheVariants.{Again, Full, NoMemory}
@@ -20,11 +21,13 @@ use Rattle.line_protocol.specs.declared.request.Request.TheVariants as asks
 use Rattle.line_protocol.specs.Texts.{pair_line}
 use Rattle.session.specs.Patience.{MayTell, IsLast, owed_by}
 use Rattle.session.specs.Replies.{pair_lines, end_line, refusal_line}
-use Rattle.session.specs.Scans.{AreParts, pairs_in, pairs_of, is_done, EndsScan, MayBreak}
+use Rattle.session.specs.Scans.{AreParts, is_done, EndsScan, MayBreak}
 use Rattle.session.specs.Transcripts.{Transcribes}
-use Rattle.session.specs.Writes.{WroteSome}
+use Rattle.session.specs.Turns.{IsTorn, WritesPieces}
+use Rattle.session.specs.Writes.{WroteSome, Gained}
 use Rattle.session.proofs.Gaining.{some_behind, some_more}
 use Rattle.session.proofs.Joining.{transcribes_one}
+use Rattle.session.proofs.Turning.{writes_one}
 
 -- Parts up to an end are new in the history, `says` holds of the lines of their first pairs, and so many are left.
 pub record Scans (lane : ℕ) (sole : Bool) (from to : Bound) (most : ℕ) (at : Bound) (left : ℕ) (says : List ℕ → Type 0) (old new : List Entry) : Type 0 where
@@ -106,22 +109,23 @@ module _ (lane : ℕ) (sole : Bool) (from to : Bound) (most : ℕ) where
 
   module _ (limit : Option ℕ) (fits : List Entry → Type 0) (i j : ℕ) (u v : Option Refusal) where
     -- the line of its end
-    pub scan_ends : (a b : List Entry → Type 0) (at : Bound) (left : ℕ) (says more : List ℕ → Type 0) (line : List ℕ) (refused : Option Refusal) → ((xs : List ℕ) → says xs → more (xs ++ line)) → RoseBy (owed_by limit refused) i j → IsLast refused v
+    pub scan_ends : {T E : Type 0} (a b : List Entry → Type 0) (at : Bound) (left : ℕ) (says : List ℕ → Type 0) (r : Result T E) (w z : Option (List ℕ)) (line : List ℕ) (refused : Option Refusal) → ((xs : List ℕ) → says xs → Gained r w z (xs ++ line)) → RoseBy (owed_by limit refused) i j → IsLast refused v
         → EndsScan limit sole (not (is_lt (bound_cmp at to)) || (left == 0)) (most - left) line refused
-        → Follows a b (Scans lane sole from to most at left says) → Follows a b (Transcribes limit lane sole fits i j u v (λ all. all ≡ Ok (Some (asks.Scan from to most)) ∷ []) more)
-    scan_ends a b at left says more line refused say rose last end = follows_weaker a b _ _ (λ old new p.
+        → Follows a b (Scans lane sole from to most at left says) → Follows a b (Transcribes limit lane sole fits i j u v (λ all. all ≡ Ok (Some (asks.Scan from to most)) ∷ []) (WritesPieces r w z))
+    scan_ends a b at left says r w z line refused say rose last end = follows_weaker a b _ _ (λ old new p.
         let pairs = pairs_of p.entries in
         let count : most - left ≡ length (take most pairs) = omega (arith, p.left_is, length-take most pairs) in
-        transcribes_one limit lane sole fits i j u v (λ all. all ≡ Ok (Some (asks.Scan from to most)) ∷ []) more old new (record { asked = Ok (Some (asks.Scan from to most)); entries = p.entries; text = pair_lines (take most pairs) ++ line; refused = refused })
-        refl (say _ p.said) p.grows
+        transcribes_one limit lane sole fits i j u v (λ all. all ≡ Ok (Some (asks.Scan from to most)) ∷ []) (WritesPieces r w z) old new (record { asked = Ok (Some (asks.Scan from to most)); entries = p.entries; text = pair_lines (take most pairs) ++ line; refused = refused })
+        refl (writes_one r w z _ (say _ p.said)) p.grows
         (record { last = at; parts = p.parts; line = line; lines = refl; end = subst (λ n. EndsScan limit sole (is_done at to most (length pairs)) n line refused) count (subst (λ l. EndsScan limit sole (not (is_lt (bound_cmp at to)) || (l == 0)) (most - left) line refused) p.left_is end) })
         rose last)
 
     -- the lines of a part that couldn't be written whole: an end stands behind them that nobody wrote
     pub scan_torn : (a b c : List Entry → Type 0) (at upto : Bound) (left : ℕ) (page : Pairs (List ℕ)) (x y z : Option (List ℕ)) → bound_cmp at upto ≡ Less → bound_cmp upto to ≢ Greater → 0 < left → i ≤ j → WroteSome y z (pair_lines (take left page))
-        → Follows a b (Scans lane sole from to most at left (Wrote x y)) → Follows b c (EntersLast lane sole (calls.Part at upto) (calls.Pairs page)) → Follows a c (Transcribes limit lane sole fits i j u v (λ all. all ≡ Ok (Some (asks.Scan from to most)) ∷ []) (WroteSome x z))
+        → Follows a b (Scans lane sole from to most at left (Wrote x y)) → Follows b c (EntersLast lane sole (calls.Part at upto) (calls.Pairs page)) → Follows a c (Transcribes limit lane sole fits i j u v (λ all. all ≡ Ok (Some (asks.Scan from to most)) ∷ []) (λ pieces. IsTorn x z [] pieces))
     scan_torn a b c at upto left page x y z less within wanted later some first second =
         let next = left - min left (length page) in
         let scanned = scans_more a b c at upto left next page (Wrote x y) (WroteSome x z) (λ xs wrote. some_behind x y z xs (pair_lines (take left page)) wrote some) less within wanted (omega arith) first second in
         let end = some_end limit sole (not (is_lt (bound_cmp upto to)) || (next == 0)) (most - next) in
-        scan_ends a c upto next (WroteSome x z) (WroteSome x z) end.0 end.1 (λ xs begun. some_more x z xs end.0 begun) (omega (arith, later, end.3)) (end.4 v) end.2 scanned
+        let stopped : Result (Unit {0}) (Unit {0}) = Err tt in
+        scan_ends a c upto next (WroteSome x z) stopped x z end.0 end.1 (λ xs begun. some_more x z xs end.0 begun) (omega (arith, later, end.3)) (end.4 v) end.2 scanned

@@ -5,4 +5,5 @@ pub mod Replies
 pub mod Scans
 pub mod Sessions
 pub mod Transcripts
+pub mod Turns
 pub mod Writes

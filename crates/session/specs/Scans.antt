@@ -1,30 +1,16 @@
 -- A scan: parts one behind another, up to a number of pairs.
 use Rattle.std.specs.Prelude.{◌≡◌, ◌≢◌, ◌<◌, ◌-◌, ◌==◌, ◌||◌, ℕ, List, [], ◌∷◌, Bool, true, false, not, length, Option, Some, None}
-use Rattle.std.specs.List.{flat_map}
 use Rattle.std.specs.Ordering.{is_lt}
 use Rattle.std.specs.declared.cmp.Ordering.TheVariants.{Less, Greater}
 use Rattle.key_bytes.specs.Bound.{bound_cmp}
 use Rattle.key_bytes.specs.declared.bound.Bound.{Bound}
-use Rattle.map_model.specs.Maps.{Pairs}
 use Rattle.map_model.specs.Calls as calls
 use Rattle.map_model.specs.History.{Entry}
+use Rattle.map_model.specs.Parts.{pairs_in}
 use Rattle.map_model.specs.declared.refusal.Refusal.{Refusal}
 use Rattle.map_model.specs.declared.refusal.Refusal.TheVariants.{Again, Full, NoMemory}
 use Rattle.session.specs.Patience.{MayTell}
 use Rattle.session.specs.Replies.{end_line, refusal_line}
-
--- the pairs of a part's reply
-abbrev pub pairs_in : calls.Reply → Pairs (List ℕ)
-pairs_in (calls.Pairs pairs) = pairs
-pairs_in (calls.Value value) = []
-pairs_in calls.Absent = []
-pairs_in calls.New = []
-pairs_in calls.Set = []
-pairs_in calls.Gone = []
-
--- the pairs of all these parts, in order
-abbrev pub pairs_of : List Entry → Pairs (List ℕ)
-pairs_of entries = flat_map (λ (e : Entry). pairs_in e.reply) entries
 
 -- the entries are parts: the first begins at the lower end, each next one where the one before ended, none ends past the upper end, and each is asked for while pairs are wanted
 abbrev pub AreParts : Bound → Bound → ℕ → List Entry → Bound → Type 0

@@ -1,5 +1,5 @@
 -- What a session did, by its end.
-use Rattle.std.specs.Prelude.{◌≡◌, ◌<◌, ◌≤◌, ℕ, Option, List, length, Bool, true, false, Result, Ok, Err}
+use Rattle.std.specs.Prelude.{◌≡◌, ◌<◌, ◌≤◌, ℕ, ◌++◌, Option, List, length, map, Bool, true, false, Result, Ok, Err}
 use Rattle.std.specs.List.{list_any, sum_by}
 use mathlib.Core.List.{IsPrefix}
 use Rattle.counts.specs.Counts.{RoseBy}
@@ -10,9 +10,12 @@ use Rattle.outside.specs.Reading.{Told, Took, Ended}
 use Rattle.outside.specs.Writing.{Wrote}
 use Rattle.outside.specs.declared.stop.Stop.{Stop}
 use Rattle.outside.specs.declared.stop.Stop.TheVariants as stops
-use Rattle.line_protocol.specs.Served.{served, quits}
-use Rattle.session.specs.Transcripts.{IsTranscript, owed, EndsLast}
+use Rattle.line_protocol.specs.Requests.{Asked, request}
+use Rattle.line_protocol.specs.Served.{served, quits, HasNoQuit}
+use Rattle.session.specs.Transcripts.{Exchange, IsTranscript, owed, EndsLast}
+use Rattle.session.specs.Turns.{IsTorn}
 use Rattle.session.specs.Writes.{WroteSome}
+use Rattle.session.specs.declared.session.TheConstants.{PIECE_BYTES}
 use Rattle.session.specs.declared.session.SessionEnd.{SessionEnd}
 use Rattle.session.specs.declared.session.SessionEnd.TheVariants.{Quit, EndOfInput, ReadFault, WriteFault, NoMemory, Spent}
 
@@ -67,7 +70,23 @@ pub record Replies (end : SessionEnd) (all : List (List ℕ)) (written_before wr
   pub rose : RoseBy (sum_by (owed limit) transcript.pieces) count next
   pub ends : EndsLast transcript.pieces last_before last_now
 
--- Bytes were taken, and of their lines some were served.
+-- at a stop all lines but the one at hand were answered whole, and these ask first for what the front asks for
+abbrev pub StopsBy : SessionEnd → Option (List ℕ) → Option (List ℕ) → List Asked → List Exchange → Type 0
+StopsBy Quit before now front pieces = Unit {0}
+StopsBy EndOfInput before now front pieces = Unit {0}
+StopsBy ReadFault before now front pieces = Unit {0}
+StopsBy WriteFault before now front pieces = IsTorn before now front pieces
+StopsBy NoMemory before now front pieces = IsTorn before now front pieces
+StopsBy (Spent taken) before now front pieces = Unit {0}
+
+-- The lines of the front were served, and each of them was answered whole.
+pub record InTurn (end : SessionEnd) (front all : List (List ℕ)) (written_before written_now : Option (List ℕ))
+    (limit : Option ℕ) (lane : ℕ) (sole : Bool) (fits : List Entry → Type 0) (count next : ℕ) (last_before last_now : Option Refusal) (old new : List Entry) : Type 0 where
+  pub replies : Replies end all written_before written_now limit lane sole fits count next last_before last_now old new
+  pub stops : StopsBy end written_before written_now (map request front) replies.transcript.pieces
+
+-- Bytes were taken, and of their lines some were served. They are a front and one piece at most, and no line of the front quits:
+-- so all lines that end in what was taken were answered, and none quit, when more was asked for.
 pub record Session (end : SessionEnd) (budget : ℕ) (told_before told_now : Option Told) (written_before written_now : Option (List ℕ))
     (limit : Option ℕ) (lane : ℕ) (sole : Bool) (fits : List Entry → Type 0) (count next : ℕ) (last_before last_now : Option Refusal) (before now : List Entry → Type 0) : Type 0 where
   pub bytes : List ℕ
@@ -75,4 +94,9 @@ pub record Session (end : SessionEnd) (budget : ℕ) (told_before told_now : Opt
   pub took : Took told_before told_now bytes
   pub answered : Ended told_before told_now ended
   pub taken : TakenBy end budget bytes ended
-  pub replies : Follows before now (Replies end (served bytes ended) written_before written_now limit lane sole fits count next last_before last_now)
+  pub front : List ℕ
+  pub piece : List ℕ
+  pub parts : bytes ≡ front ++ piece
+  pub one_piece : length piece ≤ PIECE_BYTES
+  pub stays : HasNoQuit (served front false)
+  pub replies : Follows before now (InTurn end (served front false) (served bytes ended) written_before written_now limit lane sole fits count next last_before last_now)

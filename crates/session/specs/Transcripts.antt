@@ -6,6 +6,7 @@ use Rattle.key_bytes.specs.declared.bound.Bound.{Bound}
 use Rattle.map_model.specs.Calls as calls
 use Rattle.map_model.specs.History.{Entry, after, entry_of}
 use Rattle.map_model.specs.Ordered.{Follows, Grows}
+use Rattle.map_model.specs.Parts.{pairs_of}
 use Rattle.map_model.specs.declared.refusal.Refusal.{Refusal}
 use Rattle.map_model.specs.declared.refusal.Refusal.TheVariants.{Again, Full, NoMemory}
 use Rattle.line_protocol.specs.declared.answer.Answer.TheVariants as answers
@@ -15,7 +16,7 @@ use Rattle.line_protocol.specs.Requests.{Asked, request}
 use Rattle.line_protocol.specs.Texts.{text}
 use Rattle.session.specs.Patience.{owed_by, IsLast, MayTell}
 use Rattle.session.specs.Replies.{reply_lines, refusal_line, pair_lines}
-use Rattle.session.specs.Scans.{AreParts, is_done, EndsScan, pairs_of}
+use Rattle.session.specs.Scans.{AreParts, is_done, EndsScan}
 
 -- what a line asks for, the entries of its calls, the text that answers it, and the refusal that its last line tells, if it tells one
 pub record Exchange : Type 0 where
@@ -114,18 +115,18 @@ EndsLast [] before now = now ≡ before
 EndsLast (x ∷ []) before now = IsLast x.refused now
 EndsLast (x ∷ y ∷ pieces) before now = EndsLast (y ∷ pieces) before now
 
--- The history grew by the entries of pieces that were served behind it: `asks` holds of what they asked, and `says` of their text.
+-- The history grew by the entries of pieces that were served behind it: `asks` holds of what they asked, and `says` of the pieces.
 -- The count of refusals rose as their lines owe, and a last line that tells a refusal tells the last one.
-pub record Transcribes (limit : Option ℕ) (lane : ℕ) (sole : Bool) (fits : List Entry → Type 0) (count next : ℕ) (before now : Option Refusal) (asks : List Asked → Type 0) (says : List ℕ → Type 0) (old new : List Entry) : Type 0 where
+pub record Transcribes (limit : Option ℕ) (lane : ℕ) (sole : Bool) (fits : List Entry → Type 0) (count next : ℕ) (before now : Option Refusal) (asks : List Asked → Type 0) (says : List Exchange → Type 0) (old new : List Entry) : Type 0 where
   pub pieces : List Exchange
   pub asked : asks (asked_of pieces)
-  pub said : says (text_of pieces)
+  pub said : says pieces
   pub grows : Grows lane sole (entries_of pieces) old new
   pub each : AreServed limit lane sole fits old pieces
   pub rose : RoseBy (sum_by (owed limit) pieces) count next
   pub ends : EndsLast pieces before now
 
 -- the same over all histories that a store stands for, by the members of its trait
-abbrev pub Serves : {S : Type 0} → (S → List Entry → Type 0) → (S → ℕ) → (S → Bool) → (S → List Entry → Type 0) → (S → ℕ) → (S → Option Refusal) → Option ℕ → S → S → (List Asked → Type 0) → (List ℕ → Type 0) → Type 0
+abbrev pub Serves : {S : Type 0} → (S → List Entry → Type 0) → (S → ℕ) → (S → Bool) → (S → List Entry → Type 0) → (S → ℕ) → (S → Option Refusal) → Option ℕ → S → S → (List Asked → Type 0) → (List Exchange → Type 0) → Type 0
 Serves stands lane sole fits refusals last limit old new asks says =
     Follows (stands old) (stands new) (Transcribes limit (lane old) (sole old) (fits old) (refusals old) (refusals new) (last old) (last new) asks says)

@@ -8,9 +8,10 @@ ghost use Rattle.map_model.specs.Refusals.{NotFull};
 ghost use Rattle.session.specs.Patience.{Tells};
 
 use crate::patience::Patience;
-use key_bytes::{Bound, Key};
+use key_bytes::{Bound, Key, LONGEST_VALUE};
 use map_model::{Ordered, Page, Refusal};
 use std::cmp::Ordering;
+use std::thread;
 
 // A call of a store, made again while another lane is in the way and patience lasts.
 macro_rules! patiently {
@@ -24,6 +25,8 @@ macro_rules! patiently {
                     if !$patience.again(tries) {
                         return Err(Refusal::Again(cause));
                     }
+                    // Whoever is in the way may need this processor.
+                    thread::yield_now();
                 }
                 Err(Refusal::Full(cause)) => return Err(Refusal::Full(cause)),
                 Err(Refusal::NoMemory) => return Err(Refusal::NoMemory),
@@ -39,7 +42,7 @@ pub(crate) fn put_patiently<O: Ordered, P: Patience>(
     key: &Key,
     value: &[u8],
 ) -> Result<bool, Refusal>
-    requires { length value.now ≤ 1024 }
+    requires { length value.now ≤ LONGEST_VALUE }
     ensures ok { IfOk result (λ new. Follows (O.stands store.old) (O.stands store.new)
         (Enters (O.lane store.old) (O.sole store.old) (Put key.now value.now) (was_put new))) }
     ensures refused { OnErr result (Follows (O.stands store.old) (O.stands store.new)

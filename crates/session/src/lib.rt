@@ -3,6 +3,7 @@
 
 mod attempts;
 mod buffers;
+mod endless;
 mod lines;
 mod patience;
 mod requests;
@@ -10,5 +11,7 @@ mod scans;
 mod session;
 mod writes;
 
+pub use endless::Endless;
 pub use patience::{Bounded, Patience};
-pub use session::{SessionEnd, serve};
+pub use session::{PIECE_BYTES, SessionEnd, serve};
+pub use writes::write_all;

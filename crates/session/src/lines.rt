@@ -9,6 +9,7 @@ ghost use Rattle.map_model.specs.History.{Entry};
 ghost use Rattle.outside.specs.Causes.{FaultsCounted};
 ghost use Rattle.session.specs.Asked.{if_any, asked_by_all, has_quit, upto_quit};
 ghost use Rattle.session.specs.Transcripts.{Serves};
+ghost use Rattle.session.specs.Turns.{WritesPieces};
 ghost use Rattle.session.specs.Writes.{Gained, Reaches};
 
 use crate::buffers::Buffers;
@@ -17,6 +18,7 @@ use crate::requests::{serve_del, serve_get, serve_put};
 use crate::scans::serve_scan;
 use crate::writes::reply;
 use line_protocol::{Answer, Event, Fault, Lines, Request, RequestFault, read_request};
+use line_reader::LONGEST_LINE;
 use map_model::Ordered;
 use outside::{Sink, Stop};
 use std::alloc::Global;
@@ -38,7 +40,7 @@ pub(crate) fn serve_request<O: Ordered, K: Sink, P: Patience>(
 ) -> Result<(), Stop>
     requires { IsRequest request }
     ensures served { Serves O.stands O.lane O.sole O.fits O.refusals O.last (P.limit patience.old) store.old store.new
-        (λ asked. asked ≡ Ok (Some request.entry) ∷ []) (Gained result (K.written sink.old) (K.written sink.new)) }
+        (λ asked. asked ≡ Ok (Some request.entry) ∷ []) (WritesPieces result (K.written sink.old) (K.written sink.new)) }
     ensures kept { (O.lane store.new ≡ O.lane store.old) × (O.sole store.new ≡ O.sole store.old)
         × (O.origin store.new ≡ O.origin store.old) × (P.limit patience.new ≡ P.limit patience.old) }
     ensures fits { (history : List Entry) → O.fits store.old history → O.fits store.new history }
@@ -77,9 +79,9 @@ pub(crate) fn serve_line<O: Ordered, K: Sink, P: Patience>(
     buffers: &mut Buffers,
     line: &[u8],
 ) -> Result<bool, Stop>
-    requires { length line.now ≤ 4096 }
+    requires { length line.now ≤ LONGEST_LINE }
     ensures served { Serves O.stands O.lane O.sole O.fits O.refusals O.last (P.limit patience.old) store.old store.new
-        (Reaches result (if_any (asked_for line.now))) (Gained result (K.written sink.old) (K.written sink.new)) }
+        (Reaches result (if_any (asked_for line.now))) (WritesPieces result (K.written sink.old) (K.written sink.new)) }
     ensures quit { IfOk result (λ quit. quit ≡ has_quit (if_any (asked_for line.now))) }
     ensures kept { (O.lane store.new ≡ O.lane store.old) × (O.sole store.new ≡ O.sole store.old)
         × (O.origin store.new ≡ O.origin store.old) × (P.limit patience.new ≡ P.limit patience.old) }
@@ -113,7 +115,7 @@ pub(crate) fn serve_told<O: Ordered, K: Sink, P: Patience>(
     requires { (lines : List (List ℕ)) × (map tells lines ≡ told_by event line.now) }
     ensures served { Serves O.stands O.lane O.sole O.fits O.refusals O.last (P.limit patience.old) store.old store.new
         (Reaches result (asked_by_all (told_by event line.now)))
-        (Gained result (K.written sink.old) (K.written sink.new)) }
+        (WritesPieces result (K.written sink.old) (K.written sink.new)) }
     ensures quit { IfOk result (λ quit. quit ≡ has_quit (asked_by_all (told_by event line.now))) }
     ensures kept { (O.lane store.new ≡ O.lane store.old) × (O.sole store.new ≡ O.sole store.old)
         × (O.origin store.new ≡ O.origin store.old) × (P.limit patience.new ≡ P.limit patience.old) }
@@ -146,7 +148,7 @@ fn serve_next<O: Ordered, K: Sink, P: Patience>(
     ensures served { (part : List ℕ) → Holds lines.old part →
         Serves O.stands O.lane O.sole O.fits O.refusals O.last (P.limit patience.old) store.old store.new
         (Reaches result.1 (upto_quit (asked_by_all (told_lines part (take result.0 piece.now)))))
-        (Gained result.1 (K.written sink.old) (K.written sink.new)) }
+        (WritesPieces result.1 (K.written sink.old) (K.written sink.new)) }
     ensures quit { (part : List ℕ) → Holds lines.old part →
         IfOk result.1 (λ quit. quit ≡ has_quit (asked_by_all (told_lines part (take result.0 piece.now)))) }
     ensures held { (part : List ℕ) → Holds lines.old part →
@@ -181,7 +183,7 @@ fn serve_next<O: Ordered, K: Sink, P: Patience>(
 /// that came. The reader keeps the start of the next line.
 ///
 /// A line that lies whole in the piece is served from there. Only one that began in an earlier piece, or that has
-/// more than 4,096 bytes, is copied into the reader's buffer, and so is the start of the next line.
+/// more bytes than a line may have, is copied into the reader's buffer, and so is the start of the next line.
 pub(crate) fn serve_piece<O: Ordered, K: Sink, P: Patience>(
     alloc: Global,
     store: &mut O,
@@ -195,7 +197,7 @@ pub(crate) fn serve_piece<O: Ordered, K: Sink, P: Patience>(
     ensures served { (part : List ℕ) → Holds lines.old part →
         Serves O.stands O.lane O.sole O.fits O.refusals O.last (P.limit patience.old) store.old store.new
         (Reaches result (upto_quit (asked_by_all (told_lines part piece.now))))
-        (Gained result (K.written sink.old) (K.written sink.new)) }
+        (WritesPieces result (K.written sink.old) (K.written sink.new)) }
     ensures quit { (part : List ℕ) → Holds lines.old part →
         IfOk result (λ quit. quit ≡ has_quit (asked_by_all (told_lines part piece.now))) }
     ensures held { (part : List ℕ) → Holds lines.old part →
@@ -230,7 +232,7 @@ pub(crate) fn serve_rest<O: Ordered, K: Sink, P: Patience>(
     requires { (part : List ℕ) × Holds lines.old part }
     ensures served { (part : List ℕ) → Holds lines.old part →
         Serves O.stands O.lane O.sole O.fits O.refusals O.last (P.limit patience.old) store.old store.new
-        (Reaches result (asked_by_all (last_told part))) (Gained result (K.written sink.old) (K.written sink.new)) }
+        (Reaches result (asked_by_all (last_told part))) (WritesPieces result (K.written sink.old) (K.written sink.new)) }
     ensures quit { (part : List ℕ) → Holds lines.old part →
         IfOk result (λ quit. quit ≡ has_quit (asked_by_all (last_told part))) }
     ensures kept { (O.lane store.new ≡ O.lane store.old) × (O.sole store.new ≡ O.sole store.old)

@@ -18,18 +18,18 @@ pub trait Patience {
         ensures falls { OnTrue result (left self.new (next_try tries) < left self.old tries) };
 }
 
-/// Gives up after a number of refused attempts, which is to be at least 1.
+/// Gives up after a number of refused attempts. It can give up after one at the earliest, so 0 stands for 1.
 #[derive(Clone, Copy, Debug)]
 pub struct Bounded(pub u32);
 
 impl Patience for Bounded {
-    ghost use Rattle.std.specs.Prelude.{Some};
+    ghost use Rattle.std.specs.Prelude.{Some, max};
 
-    ghost limit = { λ b. Some b.0 };
+    ghost limit = { λ b. Some (max b.0 1) };
 
-    ghost left = { λ b tries. b.0 - tries };
+    ghost left = { λ b tries. max b.0 1 - tries };
 
     fn again(&mut self, tries: u32) -> bool {
-        tries < self.0
+        tries < self.0.max(1)
     }
 }

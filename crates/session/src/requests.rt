@@ -4,13 +4,13 @@ ghost use Rattle.line_protocol.specs.declared.request.Request.TheVariants as ask
 ghost use Rattle.map_model.specs.History.{Entry};
 ghost use Rattle.outside.specs.Causes.{FaultsCounted};
 ghost use Rattle.session.specs.Transcripts.{Serves};
-ghost use Rattle.session.specs.Writes.{Gained};
+ghost use Rattle.session.specs.Turns.{WritesPieces};
 
 use crate::attempts::{del_patiently, get_patiently, put_patiently};
 use crate::buffers::Buffers;
 use crate::patience::Patience;
 use crate::writes::{refuse, reply};
-use key_bytes::Key;
+use key_bytes::{Key, LONGEST_VALUE};
 use line_protocol::Answer;
 use map_model::Ordered;
 use outside::{Sink, Stop};
@@ -24,10 +24,10 @@ pub(crate) fn serve_put<O: Ordered, K: Sink, P: Patience>(
     key: &Key,
     value: &[u8],
 ) -> Result<(), Stop>
-    requires { length value.now ≤ 1024 }
+    requires { length value.now ≤ LONGEST_VALUE }
     ensures served { Serves O.stands O.lane O.sole O.fits O.refusals O.last (P.limit patience.old) store.old store.new
         (λ asked. asked ≡ Ok (Some (asks.Put key.now value.now)) ∷ [])
-        (Gained result (K.written sink.old) (K.written sink.new)) }
+        (WritesPieces result (K.written sink.old) (K.written sink.new)) }
     ensures kept { (O.lane store.new ≡ O.lane store.old) × (O.sole store.new ≡ O.sole store.old)
         × (O.origin store.new ≡ O.origin store.old) × (P.limit patience.new ≡ P.limit patience.old) }
     ensures fits { (history : List Entry) → O.fits store.old history → O.fits store.new history }
@@ -50,7 +50,7 @@ pub(crate) fn serve_get<O: Ordered, K: Sink, P: Patience>(
 ) -> Result<(), Stop>
     ensures served { Serves O.stands O.lane O.sole O.fits O.refusals O.last (P.limit patience.old) store.old store.new
         (λ asked. asked ≡ Ok (Some (asks.Get key.now)) ∷ [])
-        (Gained result (K.written sink.old) (K.written sink.new)) }
+        (WritesPieces result (K.written sink.old) (K.written sink.new)) }
     ensures kept { (O.lane store.new ≡ O.lane store.old) × (O.sole store.new ≡ O.sole store.old)
         × (O.origin store.new ≡ O.origin store.old) × (P.limit patience.new ≡ P.limit patience.old) }
     ensures fits { (history : List Entry) → O.fits store.old history → O.fits store.new history }
@@ -77,7 +77,7 @@ pub(crate) fn serve_del<O: Ordered, K: Sink, P: Patience>(
 ) -> Result<(), Stop>
     ensures served { Serves O.stands O.lane O.sole O.fits O.refusals O.last (P.limit patience.old) store.old store.new
         (λ asked. asked ≡ Ok (Some (asks.Del key.now)) ∷ [])
-        (Gained result (K.written sink.old) (K.written sink.new)) }
+        (WritesPieces result (K.written sink.old) (K.written sink.new)) }
     ensures kept { (O.lane store.new ≡ O.lane store.old) × (O.sole store.new ≡ O.sole store.old)
         × (O.origin store.new ≡ O.origin store.old) × (P.limit patience.new ≡ P.limit patience.old) }
     ensures fits { (history : List Entry) → O.fits store.old history → O.fits store.new history }

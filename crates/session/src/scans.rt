@@ -4,7 +4,7 @@ ghost use Rattle.line_protocol.specs.declared.request.Request.TheVariants as ask
 ghost use Rattle.map_model.specs.History.{Entry};
 ghost use Rattle.outside.specs.Causes.{FaultsCounted};
 ghost use Rattle.session.specs.Transcripts.{Serves};
-ghost use Rattle.session.specs.Writes.{Gained};
+ghost use Rattle.session.specs.Turns.{WritesPieces};
 
 use crate::attempts::part_patiently;
 use crate::buffers::Buffers;
@@ -36,7 +36,7 @@ pub(crate) fn serve_scan<O: Ordered, K: Sink, P: Patience>(
 ) -> Result<(), Stop>
     ensures served { Serves O.stands O.lane O.sole O.fits O.refusals O.last (P.limit patience.old) store.old store.new
         (λ asked. asked ≡ Ok (Some (asks.Scan from to.now most)) ∷ [])
-        (Gained result (K.written sink.old) (K.written sink.new)) }
+        (WritesPieces result (K.written sink.old) (K.written sink.new)) }
     ensures kept { (O.lane store.new ≡ O.lane store.old) × (O.sole store.new ≡ O.sole store.old)
         × (O.origin store.new ≡ O.origin store.old) × (P.limit patience.new ≡ P.limit patience.old) }
     ensures fits { (history : List Entry) → O.fits store.old history → O.fits store.new history }

@@ -17,6 +17,9 @@ use map_model::Ordered;
 use outside::{Sink, Source, Stop};
 use std::alloc::Global;
 
+/// How many bytes a session asks for at once.
+pub const PIECE_BYTES: usize = 4_096;
+
 /// How a session ended.
 #[derive(Clone, Copy, Debug, PartialEq)]
 pub enum SessionEnd {
@@ -36,9 +39,10 @@ pub enum SessionEnd {
 
 /// Serves the lines of a source until one of them asks for the end, the input ends or `budget` bytes are taken.
 ///
-/// Reads at most 4,096 bytes at once, and writes the reply to a line before it serves the next. The store rests
-/// before each read and at the return, and wakes after each read. Beside the buffers of the session, which are
-/// used again for each line, a request takes memory for its keys and its value.
+/// Reads at most `PIECE_BYTES` at once, and writes the reply to a line before it serves the next: when it asks for
+/// more input, no reply waits. The store rests before each read and at the return, and wakes after each read.
+/// Beside the buffers of the session, which are used again for each line, a request takes memory for its keys and
+/// its value.
 pub fn serve<O: Ordered, S: Source, K: Sink, P: Patience>(
     alloc: Global,
     store: &mut O,
@@ -88,10 +92,10 @@ fn serve_reads<O: Ordered, S: Source, K: Sink, P: Patience>(
         Err(_) => return SessionEnd::NoMemory,
     };
     let mut buffers = Buffers::new(alloc);
-    let mut piece = [0u8; 4096];
+    let mut piece = [0u8; PIECE_BYTES];
     let mut taken = 0u64;
     'reads: while taken < budget {
-        let room = (budget - taken).min(4096) as usize;
+        let room = (budget - taken).min(PIECE_BYTES as u64) as usize;
         match read_resting(store, source, &mut piece[..room]) {
             Ok(n) => {
                 if n == 0 {

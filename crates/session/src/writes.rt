@@ -10,8 +10,8 @@ use map_model::{Page, Refusal};
 use outside::{Sink, Stop};
 use std::alloc::AllocError;
 
-/// Writes all bytes, or some first ones.
-pub(crate) fn write_all<K: Sink>(sink: &mut K, bytes: &[u8]) -> Result<(), Stop>
+/// Writes all bytes, by as many writes as the sink takes them in, or some first ones where it stops.
+pub fn write_all<K: Sink>(sink: &mut K, bytes: &[u8]) -> Result<(), Stop>
     ensures gained { Gained result (K.written sink.old) (K.written sink.new) bytes.now }
     ensures cause { FaultsCounted (K.faults sink.old) (K.faults sink.new) result }
 {

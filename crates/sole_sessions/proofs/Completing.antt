@@ -149,7 +149,7 @@ unfolding plain_session
 sole_session end budget t u w v limit lane sole fits i j m n a b alone new session =
     let s : Session end budget t u w v limit lane true fits i j m n a b = subst (λ q. Session end budget t u w v limit lane q fits i j m n a b) alone session in
     let found = s.replies [] new in
-    let r = found.2 in
+    let r = found.2.replies in
     let legal : IsLegal r.entries = subst IsLegal (r.grows.alone refl) r.grows.legal in record {
       plain = plain_session end budget t u w v limit lane fits i j m n a b new s;
       never_full = never_full limit lane fits s.bytes s.ended r.lines r.entries r.output r.transcript legal end w v r.of_all r.said;

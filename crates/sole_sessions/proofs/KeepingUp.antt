@@ -12,7 +12,8 @@ use Rattle.map_model.specs.Calls as calls
 use Rattle.map_model.specs.History.{Entry, after, map_from, IsLegalFrom, IsLegal}
 use Rattle.map_model.specs.Maps.{Pairs, find, with, without, between}
 use Rattle.map_model.proofs.Histories.{map_from-append, after-push, legal-push}
-use Rattle.session.specs.Scans.{AreParts, pairs_in}
+use Rattle.map_model.specs.Parts.{pairs_in}
+use Rattle.session.specs.Scans.{AreParts}
 use Rattle.session.specs.Transcripts.{Exchange, IsAnswered, IsServedAs}
 use Rattle.sole_sessions.specs.PlainHistory.{answered_entry, plain_entries, history_from}
 use Rattle.sole_sessions.specs.Rooms.{IsNoLarger}

@@ -17,7 +17,8 @@ use Rattle.map_model.proofs.Finds.{find_with_same}
 use Rattle.map_model.proofs.Histories.{after-push, legal-at, legal-parts, ascending_history}
 use Rattle.map_model.proofs.Parts.{between_none, between_split}
 use Rattle.map_model.proofs.Growing.{follows_then, follows_weaker, follows_itself, grows_more, stays}
-use Rattle.test_stores.specs.Walks.{Goes, Tile, pairs_in, pairs_of, Walks}
+use Rattle.map_model.specs.Parts.{pairs_in, pairs_of}
+use Rattle.test_stores.specs.Walks.{Goes, Tile, Walks}
 
 -- the reply of a get tells what was found
 pub got_value : (found : Bool) (out value : List ℕ) → got found out ≡ calls.Value value → IsTrue found × (out ≡ value)

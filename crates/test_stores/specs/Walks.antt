@@ -1,6 +1,5 @@
 -- A put and then a get, and a walk by parts.
 use Rattle.std.specs.Prelude.{◌≡◌, ◌≢◌, ℕ, ◌+◌, List, [], ◌∷◌, ◌++◌, Bool, Option, Some, Result, Ok, Err, length}
-use Rattle.std.specs.List.{flat_map}
 use Rattle.std.specs.declared.cmp.Ordering.TheVariants.{Less, Greater}
 use Rattle.key_bytes.specs.Bound.{bound_cmp}
 use Rattle.key_bytes.specs.declared.bound.Bound.{Bound}
@@ -11,6 +10,7 @@ use Rattle.map_model.specs.Maps.{Pairs}
 use Rattle.map_model.specs.Calls as calls
 use Rattle.map_model.specs.History.{Entry, own, entry_of}
 use Rattle.map_model.specs.Ordered.{Grows, was_put}
+use Rattle.map_model.specs.Parts.{pairs_of}
 
 -- a put has its entry, and a get has the next one of the lane
 abbrev pub PutsThenGets : ℕ → Bool → List ℕ → List ℕ → calls.Reply → List Entry → List Entry → Type 0
@@ -25,18 +25,6 @@ Goes lane sole old new = (entries : List Entry) × Grows lane sole entries old n
 abbrev pub Tile : Bound → Bound → List Entry → Bound → Type 0
 Tile from to [] last = last ≡ from
 Tile from to (e ∷ entries) last = (upto : Bound) × (e.call ≡ calls.Part from upto) × (bound_cmp from upto ≡ Less) × (bound_cmp upto to ≢ Greater) × Tile upto to entries last
-
-abbrev pub pairs_in : calls.Reply → Pairs (List ℕ)
-pairs_in (calls.Pairs pairs) = pairs
-pairs_in (calls.Value value) = []
-pairs_in calls.Absent = []
-pairs_in calls.New = []
-pairs_in calls.Set = []
-pairs_in calls.Gone = []
-
--- the pairs of these parts, in order
-abbrev pub pairs_of : List Entry → Pairs (List ℕ)
-pairs_of entries = flat_map (λ (e : Entry). pairs_in e.reply) entries
 
 -- parts that tile the range up to an end are new in the history, and their pairs were added
 abbrev pub Walks : ℕ → Bool → Bound → Bound → Pairs (List ℕ) → Pairs (List ℕ) → Bound → List Entry → List Entry → Type 0

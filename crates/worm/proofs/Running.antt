@@ -10,10 +10,11 @@ use Rattle.outside.proofs.Pieces.{took_none, wrote_none, ended_none}
 use Rattle.row_words.specs.Shape.{IsShape}
 use Rattle.row_words.specs.declared.shape.Shape.{Shape}
 use Rattle.session.specs.Plain.{PlainBy}
-use Rattle.session.specs.Sessions.{Session, Replies, TakenBy}
+use Rattle.session.specs.Sessions.{Session, Replies, InTurn, TakenBy}
 use Rattle.session.specs.declared.session.SessionEnd.{SessionEnd}
 use Rattle.session.specs.declared.session.SessionEnd.TheVariants as ends
 use Rattle.session.proofs.PlainSessions.{served_begins}
+use Rattle.session.proofs.Turning.{torn_none}
 use Rattle.sole_sessions.specs.Rooms.{HasRoomFor}
 use Rattle.sole_sessions.specs.SoleSessions.{SoleSession}
 use Rattle.sole_sessions.proofs.Completing.{sole_session}
@@ -34,11 +35,11 @@ complete_by ends.NoMemory status bytes ended output is no_read no_write taken fe
 complete_by (ends.Spent count) status bytes ended output is no_read no_write taken few same = absurd (omega (arith, taken.0, few))
 
 -- A store that stands for the empty history answered a legal history.
-pub replies_new : (end : SessionEnd) (all : List (List ℕ)) (w v : Option (List ℕ)) (limit : Option ℕ) (lane : ℕ) (sole : Bool) (fits : List Entry → Type 0) (i j : ℕ) (m n : Option Refusal) (a b : List Entry → Type 0)
-    → a [] → Follows a b (Replies end all w v limit lane sole fits i j m n) → Follows IsNew IsLegal (Replies end all w v limit lane sole fits i j m n)
-replies_new end all w v limit lane sole fits i j m n a b new replies =
+pub replies_new : (end : SessionEnd) (front all : List (List ℕ)) (w v : Option (List ℕ)) (limit : Option ℕ) (lane : ℕ) (sole : Bool) (fits : List Entry → Type 0) (i j : ℕ) (m n : Option Refusal) (a b : List Entry → Type 0)
+    → a [] → Follows a b (InTurn end front all w v limit lane sole fits i j m n) → Follows IsNew IsLegal (InTurn end front all w v limit lane sole fits i j m n)
+replies_new end front all w v limit lane sole fits i j m n a b new replies =
     let found = replies [] new in
-    λ old is_new. (found.0, found.2.grows.legal, subst (λ h. Replies end all w v limit lane sole fits i j m n h found.0) (sym is_new) found.2)
+    λ old is_new. (found.0, found.2.replies.grows.legal, subst (λ h. InTurn end front all w v limit lane sole fits i j m n h found.0) (sym is_new) found.2)
 
 -- a session takes no more bytes than the most
 taken_few : (end : SessionEnd) (bytes : List ℕ) (ended : Bool) → TakenBy end most_bytes bytes ended → length bytes ≤ most_bytes
@@ -69,7 +70,12 @@ ran_new k end status t u w v j n a b reads reads_now writes writes_now shape of_
         took = s.took;
         answered = s.answered;
         taken = s.taken;
-        replies = replies_new end (served s.bytes s.ended) w v (Some 1) 0 true (Fits k) 0 j None n a b new s.replies;
+        front = s.front;
+        piece = s.piece;
+        parts = s.parts;
+        one_piece = s.one_piece;
+        stays = s.stays;
+        replies = replies_new end (served s.front false) (served s.bytes s.ended) w v (Some 1) 0 true (Fits k) 0 j None n a b new s.replies;
       };
       plain = sole.plain;
       complete = λ no_read no_write few within.
@@ -105,13 +111,19 @@ ran_nothing k status t w reads writes shape is =
       rose = omega arith;
       ends = refl;
     } in
+    let turn : InTurn ends.NoMemory (served [] false) (served [] false) w w (Some 1) 0 true (Fits k) 0 0 None None [] [] = record { replies = none; stops = torn_none w } in
     let s : Session ends.NoMemory most_bytes t t w w (Some 1) 0 true (Fits k) 0 0 None None IsNew IsLegal = record {
       bytes = [];
       ended = false;
       took = took_none t;
       answered = ended_none t;
       taken = omega arith;
-      replies = λ old is_new. ([], tt, subst (λ h. Replies ends.NoMemory (served [] false) w w (Some 1) 0 true (Fits k) 0 0 None None h []) (sym is_new) none);
+      front = [];
+      piece = [];
+      parts = refl;
+      one_piece = omega arith;
+      stays = refl;
+      replies = λ old is_new. ([], tt, subst (λ h. InTurn ends.NoMemory (served [] false) (served [] false) w w (Some 1) 0 true (Fits k) 0 0 None None h []) (sym is_new) turn);
     } in
     let sole = sole_session ends.NoMemory most_bytes t t w w (Some 1) 0 true (Fits k) 0 0 None None IsNew IsLegal refl refl s in record {
       end = ends.NoMemory;

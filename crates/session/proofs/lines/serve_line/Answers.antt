@@ -5,9 +5,9 @@ use Rattle.line_protocol.specs.declared.fault.RequestFault.TheVariants as faults
 use Rattle.outside.proofs.Pieces.{wrote_none}
 use Rattle.session.specs.Asked.{if_any, has_quit}
 use Rattle.session.proofs.AskedLists.{quit_one}
-use Rattle.session.proofs.Gaining.{some_all}
 use Rattle.session.proofs.Joining.{transcribes_none, transcribes_told}
 use Rattle.session.proofs.OneCall.{line_told, reaches_all}
+use Rattle.session.proofs.Turning.{torn_none}
 use Rattle.session.proofs.lines.serve_line.Goals as goal
 
 pub returns-in-Ok-None-clause-served : goal.returns-in-Ok-None-clause-served
@@ -39,7 +39,7 @@ pub returns-in-Err-Fault-clause-served : goal.returns-in-Err-Fault-clause-served
 returns-in-Err-Fault-clause-served g c =
     let is = rw c.in-Err-Fault.field-0-is at c.in-Err-Fault.ensures.answers in
     transcribes_told _ _ _ _ _ _ _ _ _ _ _ _ _ _ (λ xs p. reaches_all c.reply_fault.result _ xs (p ∙ sym (ap if_any is))) (λ xs p. p)
-    (line_told _ _ _ _ (Err (faults.Fault c.in-Err-Fault.fault)) _ _ _ _ _ (λ seen x told. told) (λ old history. g.met.O.Ordered.stands_legal _ old history) c.reply_fault.ensures.gained)
+    (line_told _ _ _ _ (Err (faults.Fault c.in-Err-Fault.fault)) _ _ _ _ _ _ _ (λ seen x told. told) (λ old history. g.met.O.Ordered.stands_legal _ old history) c.reply_fault.ensures.gained)
 
 pub returns-in-Err-Fault-clause-quit : goal.returns-in-Err-Fault-clause-quit
 returns-in-Err-Fault-clause-quit g c =
@@ -48,4 +48,4 @@ returns-in-Err-Fault-clause-quit g c =
 
 pub returns-in-Err-NoMemory-clause-served : goal.returns-in-Err-NoMemory-clause-served
 returns-in-Err-NoMemory-clause-served g c =
-    transcribes_none _ _ _ _ _ _ _ _ _ (λ old history. g.met.O.Ordered.stands_legal _ old history) (_, refl) (some_all _ _ [] (wrote_none _))
+    transcribes_none _ _ _ _ _ _ _ _ _ (λ old history. g.met.O.Ordered.stands_legal _ old history) (_, refl) (torn_none _)

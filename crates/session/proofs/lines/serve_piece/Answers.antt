@@ -5,11 +5,11 @@ use Rattle.line_reader.specs.Cut.{open_part}
 use Rattle.line_protocol.specs.Requests.{Asked}
 use Rattle.line_reader.specs.Told.{Holds, told_lines}
 use Rattle.line_reader.proofs.Cutting.{told_lines-append, told_more, open_more}
-use Rattle.outside.proofs.Pieces.{wrote_none, wrote_more}
+use Rattle.outside.proofs.Pieces.{wrote_none}
 use Rattle.session.specs.Asked.{asked_by_all, has_quit, upto_quit}
 use Rattle.session.proofs.AskedLists.{upto_none, more_quit, more_asked, more_begun, longer_asked, longer_quit, longer_begun}
-use Rattle.session.proofs.Gaining.{some_behind}
 use Rattle.session.proofs.Joining.{transcribes_none, transcribes_told, transcribes_then}
+use Rattle.session.proofs.Turning.{wrote_behind, torn_more}
 use Rattle.session.proofs.lines.serve_piece.Goals as goal
 
 -- the lines of a piece are those of its front, and those of the rest
@@ -65,7 +65,7 @@ told-preserved g c =
       faults = omega (arith, now.faults, counted);
       transcript = λ part holds. transcribes_then _ _ _ _ _ _ _ _ _ _ _ _ _ _ _ _ _ _ _ _ now.fits
           (λ xs ys p q. more_asked (told_lines part (take at piece)) (told_lines (open_part part (take at piece)) (take used slice)) _ (told_more part piece slice at used rest) (now.going part holds) xs ys p q ∙ upto_none _ (going part holds))
-          (λ xs ys p q. wrote_more _ _ _ xs ys p q) (now.transcript part holds) (rw (now.lane, now.sole, now.limit, c.in-Ok-false.is) at (next.ensures.served (open_part part (take at piece)) (now.held part holds)));
+          (λ xs ys asked p q. wrote_behind _ _ _ xs ys p q) (now.transcript part holds) (rw (now.lane, now.sole, now.limit, c.in-Ok-false.is) at (next.ensures.served (open_part part (take at piece)) (now.held part holds)));
     }
 
 pub returns-in-Ok-true-clause-served : goal.returns-in-Ok-true-clause-served
@@ -84,7 +84,7 @@ returns-in-Ok-true-clause-served g c = λ part holds.
     more_quit front back _ is (now.going part holds) ∙ (sym last ∙ c.in-Ok-true.field-0-test) in
     transcribes_then _ _ _ _ _ _ _ _ _ _ _ _ _ _ _ _ _ _ _ _ now.fits
     (λ xs ys p q. more_asked front back _ is (now.going part holds) xs ys p q ∙ all_asked part piece (at + used) quit)
-    (λ xs ys p q. wrote_more _ _ _ xs ys p q) (now.transcript part holds) (rw (now.lane, now.sole, now.limit, c.in-Ok-true.is) at (next.ensures.served (open_part part (take at piece)) (now.held part holds)))
+    (λ xs ys asked p q. wrote_behind _ _ _ xs ys p q) (now.transcript part holds) (rw (now.lane, now.sole, now.limit, c.in-Ok-true.is) at (next.ensures.served (open_part part (take at piece)) (now.held part holds)))
 
 pub returns-in-Ok-true-clause-quit : goal.returns-in-Ok-true-clause-quit
 returns-in-Ok-true-clause-quit g c = λ part holds.
@@ -115,7 +115,7 @@ returns-in-Err-clause-served g c = λ part holds.
     let is = told_more part piece slice at used (take_rest piece at) in
     transcribes_then _ _ _ _ _ _ _ _ _ _ _ _ _ _ _ _ _ _ _ _ now.fits
     (λ xs ys p q. all_begun part piece (at + used) (xs ++ ys) (more_begun front back _ is (now.going part holds) xs ys p q))
-    (λ xs ys p q. some_behind _ _ _ xs ys p q) (now.transcript part holds) (rw (now.lane, now.sole, now.limit, c.in-Err.is) at (next.ensures.served (open_part part (take at piece)) (now.held part holds)))
+    (λ xs ys asked p q. torn_more _ _ _ xs ys p q) (now.transcript part holds) (rw (now.lane, now.sole, now.limit, c.in-Err.is) at (next.ensures.served (open_part part (take at piece)) (now.held part holds)))
 
 pub returns-clause-served : goal.returns-clause-served
 returns-clause-served g c = λ part holds.

@@ -3,9 +3,9 @@ use Rattle.line_reader.specs.Cut.{open_part}
 use Rattle.line_reader.specs.Told.{Holds, told_lines}
 use Rattle.map_model.specs.History.{Entry}
 use Rattle.map_model.specs.Ordered.{Follows}
-use Rattle.outside.specs.Writing.{Wrote}
 use Rattle.session.specs.Asked.{asked_by_all, has_quit}
 use Rattle.session.specs.Transcripts.{Transcribes}
+use Rattle.session.specs.Turns.{WrotePieces}
 use Rattle.session.proofs.lines.serve_piece.Given as goal
 
 -- the lines so far were served, none was the last, and the reader has the start of the next one
@@ -22,7 +22,7 @@ invariant-told g l = record {
   faults : g.K.Sink.faults l.fn.sink ≤ g.K.Sink.faults l.sink;
   transcript : (part : List ℕ) → Holds l.fn.lines part → Follows (g.O.Ordered.stands l.fn.store) (g.O.Ordered.stands l.store)
       (Transcribes (g.P.Patience.limit l.fn.patience) (g.O.Ordered.lane l.fn.store) (g.O.Ordered.sole l.fn.store) (g.O.Ordered.fits l.fn.store) (g.O.Ordered.refusals l.fn.store) (g.O.Ordered.refusals l.store) (g.O.Ordered.last l.fn.store) (g.O.Ordered.last l.store)
-      (λ asked. asked ≡ asked_by_all (told_lines part (take l.at l.piece))) (Wrote (g.K.Sink.written l.fn.sink) (g.K.Sink.written l.sink)));
+      (λ asked. asked ≡ asked_by_all (told_lines part (take l.at l.piece))) (WrotePieces (g.K.Sink.written l.fn.sink) (g.K.Sink.written l.sink)));
 }
 
 abbrev pub decreases-told : goal.decreases-told

@@ -25,4 +25,4 @@ returns-in-Scan-clause-served g c =
 pub returns-in-Quit-clause-served : goal.returns-in-Quit-clause-served
 returns-in-Quit-clause-served g c =
     transcribes_told _ _ _ _ _ _ _ _ _ _ _ _ _ _ (λ xs p. p ∙ one_asked asks.Quit c.args.request (sym c.in-Quit.is)) (λ xs p. p)
-    (line_told _ _ _ _ _ _ _ _ _ _ (λ seen x told. told) (λ old history. g.met.O.Ordered.stands_legal _ old history) c.reply.ensures.gained)
+    (line_told _ _ _ _ _ _ _ _ _ _ _ _ (λ seen x told. told) (λ old history. g.met.O.Ordered.stands_legal _ old history) c.reply.ensures.gained)

@@ -48,7 +48,7 @@ returns-in-TooLong-clause-served g c =
     let event = c.in-Some.is ∙ ap Some c.in-TooLong.is in
     let is = ap (λ (e : Option Event). asked_by_all (told e c.args.line.now)) event in
     transcribes_told _ _ _ _ _ _ _ _ _ _ _ _ _ _ (λ xs p. reaches_all c.reply_fault.result _ xs (p ∙ sym is)) (λ xs p. p)
-    (line_told _ _ _ _ (Err (faults.Fault causes.Line)) _ _ _ _ _ (λ seen x said. said) (λ old history. g.met.O.Ordered.stands_legal _ old history) c.reply_fault.ensures.gained)
+    (line_told _ _ _ _ (Err (faults.Fault causes.Line)) _ _ _ _ _ _ _ (λ seen x said. said) (λ old history. g.met.O.Ordered.stands_legal _ old history) c.reply_fault.ensures.gained)
 
 pub returns-in-TooLong-clause-quit : goal.returns-in-TooLong-clause-quit
 returns-in-TooLong-clause-quit g c =

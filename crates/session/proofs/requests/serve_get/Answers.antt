@@ -6,15 +6,15 @@ use Rattle.session.proofs.requests.serve_get.Goals as goal
 
 pub returns-in-Ok-true-clause-served : goal.returns-in-Ok-true-clause-served
 returns-in-Ok-true-clause-served g c =
-    call_answered _ _ _ _ _ _ _ _ _ _ _ _ (calls.Get c.args.key.now) (got true c.get_patiently.new.value.items) (λ seen x answered. inl answered) (rw c.as_slice.ensures.value at c.reply.ensures.gained) c.in-Ok-true.ensures.told
+    call_answered _ _ _ _ _ _ _ _ _ _ _ _ _ _ (calls.Get c.args.key.now) (got true c.get_patiently.new.value.items) (λ seen x answered. inl answered) (rw c.as_slice.ensures.value at c.reply.ensures.gained) c.in-Ok-true.ensures.told
     (last_enters _ _ _ _ _ _ (rw c.in-Ok-true.field-0-test at c.in-Ok-true.ensures.ok))
 
 pub returns-in-Ok-false-clause-served : goal.returns-in-Ok-false-clause-served
 returns-in-Ok-false-clause-served g c =
-    call_answered _ _ _ _ _ _ _ _ _ _ _ _ (calls.Get c.args.key.now) (got false c.get_patiently.new.value.items) (λ seen x answered. inl answered) c.reply-in-Ok-false.ensures.gained c.in-Ok-false.ensures.told
+    call_answered _ _ _ _ _ _ _ _ _ _ _ _ _ _ (calls.Get c.args.key.now) (got false c.get_patiently.new.value.items) (λ seen x answered. inl answered) c.reply-in-Ok-false.ensures.gained c.in-Ok-false.ensures.told
     (last_enters _ _ _ _ _ _ (rw c.in-Ok-false.field-0-test at c.in-Ok-false.ensures.ok))
 
 pub returns-in-Err-clause-served : goal.returns-in-Err-clause-served
 returns-in-Err-clause-served g c =
-    call_refused _ _ _ _ _ _ _ _ _ _ _ _ (calls.Get c.args.key.now) c.in-Err.refusal (λ seen x refused. inr refused) c.refuse.ensures.gained c.in-Err.ensures.told.1
+    call_refused _ _ _ _ _ _ _ _ _ _ _ _ _ _ (calls.Get c.args.key.now) c.in-Err.refusal (λ seen x refused. inr refused) c.refuse.ensures.gained c.in-Err.ensures.told.1
     (λ seen history full. not_full c.in-Err.refusal full c.in-Err.ensures.room) c.in-Err.ensures.refused

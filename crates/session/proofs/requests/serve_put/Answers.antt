@@ -6,13 +6,13 @@ use Rattle.session.proofs.requests.serve_put.Goals as goal
 
 pub returns-in-Ok-true-clause-served : goal.returns-in-Ok-true-clause-served
 returns-in-Ok-true-clause-served g c =
-    call_answered _ _ _ _ _ _ _ _ _ _ _ _ (calls.Put c.args.key.now c.args.value.now) (was_put true) (λ seen x answered. inl answered) c.reply.ensures.gained c.in-Ok-true.ensures.told (rw c.in-Ok-true.field-0-test at c.in-Ok-true.ensures.ok)
+    call_answered _ _ _ _ _ _ _ _ _ _ _ _ _ _ (calls.Put c.args.key.now c.args.value.now) (was_put true) (λ seen x answered. inl answered) c.reply.ensures.gained c.in-Ok-true.ensures.told (rw c.in-Ok-true.field-0-test at c.in-Ok-true.ensures.ok)
 
 pub returns-in-Ok-false-clause-served : goal.returns-in-Ok-false-clause-served
 returns-in-Ok-false-clause-served g c =
-    call_answered _ _ _ _ _ _ _ _ _ _ _ _ (calls.Put c.args.key.now c.args.value.now) (was_put false) (λ seen x answered. inl answered) c.reply-in-Ok-false.ensures.gained c.in-Ok-false.ensures.told (rw c.in-Ok-false.field-0-test at c.in-Ok-false.ensures.ok)
+    call_answered _ _ _ _ _ _ _ _ _ _ _ _ _ _ (calls.Put c.args.key.now c.args.value.now) (was_put false) (λ seen x answered. inl answered) c.reply-in-Ok-false.ensures.gained c.in-Ok-false.ensures.told (rw c.in-Ok-false.field-0-test at c.in-Ok-false.ensures.ok)
 
 pub returns-in-Err-clause-served : goal.returns-in-Err-clause-served
 returns-in-Err-clause-served g c =
-    call_refused _ _ _ _ _ _ _ _ _ _ _ _ (calls.Put c.args.key.now c.args.value.now) c.in-Err.refusal (λ seen x refused. inr refused) c.refuse.ensures.gained c.in-Err.ensures.told.1
+    call_refused _ _ _ _ _ _ _ _ _ _ _ _ _ _ (calls.Put c.args.key.now c.args.value.now) c.in-Err.refusal (λ seen x refused. inr refused) c.refuse.ensures.gained c.in-Err.ensures.told.1
     (λ seen history full alone fit. not_full c.in-Err.refusal full (c.in-Err.ensures.room alone seen history fit)) c.in-Err.ensures.refused

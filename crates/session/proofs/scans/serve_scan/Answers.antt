@@ -29,7 +29,7 @@ returns-then-is_over-clause-served g c =
     let now = c.parts.invariant in
     let count = c.args.most - c.parts.left in
     let over : (not (is_lt (bound_cmp c.parts.at c.args.to.now)) || (c.parts.left == 0)) ≡ true = ap (λ m. not m || (c.parts.left == 0)) (sym now.more_is) ∙ (sym c.is_over.ensures ∙ c.if-is_over.true) in
-    scan_ends _ _ _ _ _ _ _ _ _ _ _ _ _ c.parts.at c.parts.left _ _ (end_line count) None (λ xs wrote. gained_behind c.reply.result _ _ _ xs _ wrote c.reply.ensures.gained) (omega (arith, now.later)) tt
+    scan_ends _ _ _ _ _ _ _ _ _ _ _ _ _ c.parts.at c.parts.left _ _ _ _ (end_line count) None (λ xs wrote. gained_behind c.reply.result _ _ _ xs _ wrote c.reply.ensures.gained) (omega (arith, now.later)) tt
     (subst (λ b. EndsScan (g.P.Patience.limit c.args.patience.now) (g.O.Ordered.sole c.args.store.now) b count (end_line count) None) (sym over) (refl, refl)) now.scan
 
 pub parts-smaller : goal.parts-smaller
@@ -69,6 +69,6 @@ returns-in-Err-clause-served g c =
     let refusal = c.in-Err.refusal in
     let told = rw (now.limit, now.sole) at part.told in
     let open_still : (not (is_lt (bound_cmp c.parts.at c.args.to.now)) || (c.parts.left == 0)) ≡ false = ap (λ m. not m || (c.parts.left == 0)) (sym now.more_is) ∙ (sym c.is_over.ensures ∙ c.if-is_over.false) in
-    scan_ends _ _ _ _ _ _ _ _ _ _ _ _ _ c.parts.at c.parts.left _ _ (refusal_line refusal) (Some refusal) (λ xs wrote. gained_behind c.refuse.result _ _ _ xs _ wrote c.refuse.ensures.gained) (omega (arith, now.later, told.1.rose)) told.1.is_last
+    scan_ends _ _ _ _ _ _ _ _ _ _ _ _ _ c.parts.at c.parts.left _ _ _ _ (refusal_line refusal) (Some refusal) (λ xs wrote. gained_behind c.refuse.result _ _ _ xs _ wrote c.refuse.ensures.gained) (omega (arith, now.later, told.1.rose)) told.1.is_last
     (subst (λ b. EndsScan (g.P.Patience.limit c.args.patience.now) (g.O.Ordered.sole c.args.store.now) b count (refusal_line refusal) (Some refusal)) (sym open_still) (refusal, may_break _ _ refusal part.room told.1.may, refl, refl))
     (scans_stay _ _ _ _ _ _ _ _ _ _ _ now.scan (rw (now.lane, now.sole) at part.refused))
