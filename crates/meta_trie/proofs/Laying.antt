@@ -1,5 +1,5 @@
 -- From the row of a new anchor to the whole table.
-use Rattle.std.proofs.Common.{◌≡◌, ◌≢◌, ℕ, zero, suc, ◌+◌, ◌-◌, ◌*◌, ◌<◌, ◌≤◌, List, length, get_or, Option, Some, None, sym, ap, ◌∙◌, refl, arith, true≢false, get_or-set_other, get_or-set_same}
+use Rattle.std.proofs.Common.{◌≡◌, ◌≢◌, ℕ, zero, suc, ◌+◌, ◌-◌, ◌<◌, ◌≤◌, List, length, get_or, Option, Some, None, sym, ap, ◌∙◌, refl, arith, true≢false, get_or-set_other, get_or-set_same}
 use Rattle.std.specs.Prelude.{Bool, true, false, ◌&&◌, not, max, is_some}
 use mathlib.Core.Bool.{false≢true}
 use Rattle.std.proofs.Math.ListN.{set}

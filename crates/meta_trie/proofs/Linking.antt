@@ -10,7 +10,7 @@ use Rattle.key_bytes.specs.Order.{is_same}
 use Rattle.anchor_rules.specs.Items.{Item}
 use Rattle.meta_trie.specs.Trie.{Says, Entry, bucket_of, Chain, Stands, Names, Apart, Spare, Unlike, Among, HasEntry, Holds, named_free, free_after, used_of, free_of}
 use Rattle.meta_trie.specs.Words.{Linked, SameAnchors, with_item}
-use Rattle.key_bytes.proofs.Orders.{same_is, same_itself}
+use Rattle.key_bytes.proofs.Orders.{same_is}
 use Rattle.meta_trie.proofs.Changing.{with_here, with_other}
 
 -- what an option is not

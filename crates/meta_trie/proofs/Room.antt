@@ -1,5 +1,5 @@
 -- Anchors that some rows stand for have room in each table of the shape.
-use Rattle.std.proofs.Common.{◌≡◌, ◌≢◌, ℕ, ◌+◌, ◌-◌, ◌<◌, ◌≤◌, inl, inr, List, [], ◌∷◌, ◌++◌, length, Option, Some, None, true, refl, sym, ap, ◌∙◌, subst, arith}
+use Rattle.std.proofs.Common.{◌≡◌, ℕ, ◌+◌, ◌-◌, ◌<◌, ◌≤◌, inl, inr, List, [], ◌∷◌, ◌++◌, length, Option, None, true, refl, ap, ◌∙◌, subst, arith}
 use Rattle.std.specs.List.{AllByRecursion}
 use Rattle.std.proofs.lemmas.Bool.{cases_eq}
 use mathlib.Core.Bool.{false≢true}
@@ -10,7 +10,7 @@ use Rattle.anchor_rules.specs.Anchors.{Anchors, is_before, span, splits, with_sp
 use Rattle.anchor_rules.specs.Items.{shared}
 use Rattle.anchor_rules.proofs.Edits.{split_here, split_later, merge_here, merge_later}
 use Rattle.anchor_rules.proofs.ItemChanges.{Place, place_of}
-use Rattle.anchor_rules.proofs.Parts.{Cut, cut, none_later}
+use Rattle.anchor_rules.proofs.Parts.{cut, none_later}
 use Rattle.row_words.specs.declared.shape.Shape.{Shape}
 use Rattle.row_words.specs.declared.layout.TheConstants.{LONGEST_ANCHOR}
 use Rattle.meta_trie.specs.Stands.{StandsFor, fresh_count, prefix_count, new_count, FitsSplit, AreItemsFull}

@@ -1,5 +1,5 @@
 -- A change that is made in rows.
-use Rattle.std.proofs.Common.{◌≡◌, ℕ, ◌<◌, List, true, sym, ap, subst}
+use Rattle.std.proofs.Common.{◌≡◌, ℕ, ◌<◌, List, sym, ap, subst}
 use Rattle.key_bytes.specs.Lengths.{IsKey}
 use Rattle.map_model.specs.declared.refusal.TableFull.{TableFull}
 use Rattle.anchor_rules.specs.Anchors.{Anchors, with_split, with_merge}

@@ -1,5 +1,5 @@
 -- An anchor that goes, and the map of items while its prefixes are taken out.
-use Rattle.std.specs.Prelude.{ℕ, ◌≡◌, ◌≢◌, ◌+◌, ◌-◌, ◌*◌, ◌<◌, ◌≤◌, List, [], ◌∷◌, ◌++◌, length, max, Bool, true, not, ◌&&◌, ◌||◌, Option, Some, slice_index, if◌then◌else◌}
+use Rattle.std.specs.Prelude.{ℕ, ◌≡◌, ◌≢◌, ◌+◌, ◌-◌, ◌<◌, ◌≤◌, List, [], ◌∷◌, ◌++◌, length, max, Bool, true, not, ◌&&◌, ◌||◌, Option, Some, slice_index, if◌then◌else◌}
 use Rattle.key_bytes.specs.Common.{lcp}
 use Rattle.key_bytes.specs.Order.{is_same}
 use Rattle.anchor_rules.specs.Anchors.{Anchors, AreAnchors, span, has_leaf, with_merge}

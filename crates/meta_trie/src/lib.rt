@@ -27,3 +27,6 @@ pub use lags::{Lag, turn_rows};
 pub use looks::{look, look_by_hash};
 pub use removes::remove_anchor;
 pub use starts::{start, start_zeroed};
+
+// An anchor is a prefix of a key, so each has room in a row.
+const _: () = prove!(key_bytes::LONGEST_KEY == row_words::layout::LONGEST_ANCHOR);

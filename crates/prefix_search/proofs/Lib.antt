@@ -4,3 +4,4 @@ pub mod FourWays
 pub mod Hashing
 pub mod Tables
 pub mod TopBits
+pub mod Firsts

@@ -6,12 +6,14 @@ use mathlib.Core.Bool.{false≢true}
 use Rattle.key_bytes.specs.Fnv.{prefix_hash}
 use Rattle.key_bytes.specs.Lengths.{AreBytes}
 use Rattle.key_bytes.specs.Order.{is_same}
+use Rattle.key_bytes.proofs.Conditions.{some_same}
 use Rattle.anchor_rules.specs.Anchors.{Anchors, Span, span, next_anchor, Rises, AreAnchors}
 use Rattle.anchor_rules.specs.Items.{Item, item, begins, is_anchor_of, longest_anchor, leaf_before}
 use Rattle.anchor_rules.proofs.ItemParts.{item_is, item_short, leftmost_begins}
 use Rattle.anchor_rules.proofs.ItemChanges.{Place, place_of}
 use Rattle.anchor_rules.proofs.Ends.{last_one, leaf_before_at, begins_empty}
 use Rattle.row_words.specs.declared.shape.Shape.{Shape}
+use Rattle.row_words.specs.declared.layout.TheConstants.{LONGEST_ANCHOR, UPPER}
 use Rattle.row_words.specs.Decode.{longest_at, item_at, anchor_at, previous_at, next_at, IsLive, IsUsed, IsOf}
 use Rattle.meta_trie.specs.Trie.{Entry, Stands, HasEntry, bucket_of}
 use Rattle.meta_trie.specs.Stands.{first_link, LeafChain, StandsFor}
@@ -42,14 +44,14 @@ pub root_tells : (k : Shape) (ws : List ℕ) (A : Anchors) → StandsFor k ws A 
 root_tells k ws A s = (root_stands k ws A s).said
 
 -- the header tells the length of the longest anchor
-short_anchors : (A : Anchors) (n : ℕ) → AllByRecursion (λ (q : List ℕ × ℕ). (length q.0 < 256) × AreBytes q.0 × (q.1 < n)) A → longest_anchor A < 256
+short_anchors : (A : Anchors) (n : ℕ) → AllByRecursion (λ (q : List ℕ × ℕ). (length q.0 < LONGEST_ANCHOR + 1) × AreBytes q.0 × (q.1 < n)) A → longest_anchor A < LONGEST_ANCHOR + 1
 short_anchors [] n all = omega arith
 short_anchors (q ∷ A) n all = let rest = short_anchors A n all.1 in omega (arith, all.0.0)
 
 pub longest_is : (k : Shape) (ws : List ℕ) (A : Anchors) → StandsFor k ws A → longest_at ws ≡ longest_anchor A
-longest_is k ws A s = ap (λ (n : ℕ). n % 4294967296) s.longest ∙ small (longest_anchor A) (short_anchors A k.leaves s.keys)
+longest_is k ws A s = ap (λ (n : ℕ). n % UPPER) s.longest ∙ small (longest_anchor A) (short_anchors A k.leaves s.keys)
   where
-    small : (n : ℕ) → n < 256 → n % 4294967296 ≡ n
+    small : (n : ℕ) → n < LONGEST_ANCHOR + 1 → n % UPPER ≡ n
     small n lt = omega arith
 
 pub none_past : (A : Anchors) (key : List ℕ) (n : ℕ) → longest_anchor A < n → n ≤ length key → item A (take n key) ≡ None
@@ -116,9 +118,6 @@ at_leaf k ws A leaf s stands e = go place.back place.whole place.next
 pub record BeforeLeaf (k : Shape) (ws : List ℕ) (A : Anchors) (leaf : ℕ) : Type 0 where
   pub live : IsLive k ws leaf
   pub link : previous_at k ws leaf ≡ leaf_before A leaf + 1
-
-some_same : (a b : List ℕ) → Some a ≡ Some b → a ≡ b
-some_same a b e = cc
 
 pub before_leaf : (k : Shape) (ws : List ℕ) (A : Anchors) (leaf : ℕ) (s : Span) → StandsFor k ws A → span A leaf ≡ Some s → s.0 ≢ [] → BeforeLeaf k ws A leaf
 before_leaf k ws A leaf s stands e some = go place.front place.whole

@@ -16,7 +16,11 @@ digits (suc n) = if nat_le (2 ^ digits n) (suc n) then digits n + 1 else digits 
 abbrev pub length_digits : Anchors → List ℕ → ℕ
 length_digits A key = digits (min (length key) (longest_anchor A))
 
--- the most steps of a search, where no more than chain prefixes of the anchors share a bucket
+-- the most steps of a search for the leaf alone, where no more than chain prefixes of the anchors share a bucket
+abbrev pub seek_bound : Anchors → List ℕ → ℕ → ℕ
+seek_bound A key chain = (length_digits A key + 1) * chain + 2
+
+-- and of one that reads the rows of the leaf and of the next one too
 abbrev pub bound : Anchors → List ℕ → ℕ → ℕ
 bound A key chain = (length_digits A key + 1) * chain + 4
 

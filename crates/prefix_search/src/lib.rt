@@ -4,6 +4,7 @@
 
 mod answers;
 mod bits;
+mod ends;
 mod hints;
 mod leaves;
 mod locates;
@@ -14,6 +15,7 @@ mod roots;
 mod tests;
 
 pub use answers::{Located, Longest, Sought};
+pub use ends::locate_end;
 pub use hints::Hint;
 pub use leaves::at_leaf;
 pub use locates::{locate, seek};

@@ -7,7 +7,7 @@ ghost use Rattle.anchor_rules.specs.Items as items;
 ghost use Rattle.anchor_rules.specs.Items.{Item, is_prefix, under, last_leaf};
 ghost use Rattle.meta_trie.specs.Trie.{Says};
 ghost use Rattle.meta_trie.specs.Stands.{StandsFor, IsTable, MostInBucket};
-ghost use Rattle.prefix_search.specs.Search.{IsLocated, IsLongestOf, bound};
+ghost use Rattle.prefix_search.specs.Search.{IsLocated, IsLongestOf, bound, seek_bound};
 
 use crate::answers::{Located, Sought};
 use crate::bits::greatest_byte;
@@ -16,6 +16,7 @@ use crate::leaves::{at_leaf, before_leaf};
 use crate::longests::{Reached, blank_item, reach};
 use key_bytes::{Fnv, Key};
 use meta_trie::look_by_hash;
+use row_words::layout::LONGEST_ANCHOR;
 use row_words::{ItemRow, Rows};
 use std::sync::ledger::Ledger;
 use steps::Steps;
@@ -40,14 +41,14 @@ pub fn seek<R: Rows, L: Ledger>(
     requires { IsTable (R.shape rows.old) (R.words rows.old) }
     ensures leaf { (A : Anchors) → StandsFor (R.shape rows.old) (R.words rows.old) A → result.leaf ≡ target A key.now }
     ensures hash { result.hash ≡ prefix_hash (R.shape rows.old).salt key.now }
-    ensures cost { (A : Anchors) → StandsFor (R.shape rows.old) (R.words rows.old) A → (c : ℕ) → MostInBucket (R.shape rows.old) A c → steps.new ≤ steps.old + bound A key.now c }
+    ensures cost { (A : Anchors) → StandsFor (R.shape rows.old) (R.words rows.old) A → (c : ℕ) → MostInBucket (R.shape rows.old) A c → steps.new ≤ steps.old + seek_bound A key.now c }
     ensures words { R.words rows.new ≡ R.words rows.old }
     ensures shape { R.shape rows.new ≡ R.shape rows.old }
     ensures stays { R.stays rows.old rows.new }
 {
     let bytes = key.bytes();
     let mut item = blank_item();
-    let reached = reach(rows, bytes, hint.len(), &mut item, steps);
+    let reached = reach(rows, bytes, hint.len() as usize, &mut item, steps);
     hint.learn(reached.len as u32);
     let leaf = leaf_from(rows, bytes, &reached, &item, steps);
     let rest = &bytes[reached.len..];
@@ -74,8 +75,8 @@ pub fn locate<R: Rows, L: Ledger>(rows: &mut R, key: &Key, steps: &mut Steps<L>)
     at_leaf(rows, leaf, steps)
 }
 
-/// The leaf of a key, from the longest prefix of the key that has an item, and that item. It takes at most one look
-/// for a child, or one step for the leaf before.
+/// The leaf of a key, from the longest prefix of the key that has an item, and that item. It takes at
+/// most one look for a child, or one step for the leaf before.
 #[inline]
 fn leaf_from<R: Rows, L: Ledger>(
     rows: &mut R,
@@ -85,7 +86,7 @@ fn leaf_from<R: Rows, L: Ledger>(
     steps: &mut Steps<L>,
 ) -> u32
     requires table { IsTable (R.shape rows.old) (R.words rows.old) }
-    requires short { length key.now < 256 }
+    requires short { length key.now < LONGEST_ANCHOR + 1 }
     requires within { reached.now.len ≤ length key.now }
     requires hash { reached.now.hash ≡ prefix_hash (R.shape rows.old).salt (take reached.now.len key.now) }
     requires longest { (A : Anchors) → StandsFor (R.shape rows.old) (R.words rows.old) A → IsLongestOf A key.now reached.now.len item.now }
@@ -119,6 +120,9 @@ fn child_below(item: &ItemRow, rest: &[u8]) -> Option<u8>
     greatest_byte(&item.bits, rest[0])
 }
 
+// Room for a prefix and one byte more.
+const LONGEST_PREFIX: usize = LONGEST_ANCHOR + 1;
+
 /// The last leaf of this child of a prefix, whose hash is given.
 #[inline]
 fn last_of_child<R: Rows, L: Ledger>(
@@ -129,7 +133,7 @@ fn last_of_child<R: Rows, L: Ledger>(
     steps: &mut Steps<L>,
 ) -> u32
     requires table { IsTable (R.shape rows.old) (R.words rows.old) }
-    requires short { length prefix.now < 256 }
+    requires short { length prefix.now < LONGEST_ANCHOR + 1 }
     requires hash { hash ≡ prefix_hash (R.shape rows.old).salt prefix.now }
     requires child { (A : Anchors) → StandsFor (R.shape rows.old) (R.words rows.old) A → is_prefix A (prefix.now ++ byte ∷ []) ≡ true }
     ensures leaf { (A : Anchors) → StandsFor (R.shape rows.old) (R.words rows.old) A → result ≡ last_leaf (under A (prefix.now ++ byte ∷ [])) }
@@ -145,7 +149,7 @@ fn last_of_child<R: Rows, L: Ledger>(
         let short = with_byte::<64>(prefix, byte);
         last_leaf_of(rows, &short[..end], hash, steps)
     } else {
-        let long = with_byte::<256>(prefix, byte);
+        let long = with_byte::<LONGEST_PREFIX>(prefix, byte);
         last_leaf_of(rows, &long[..end], hash, steps)
     }
 }

@@ -1,6 +1,6 @@
 //! Which length a search looks at next.
 
-ghost use Rattle.std.specs.Prelude.{◌≡◌, ◌<◌, ◌≤◌, ◌+◌, ◌-◌, ◌*◌, ◌^◌, ℕ};
+ghost use Rattle.std.specs.Prelude.{◌<◌, ◌≤◌, ◌+◌, ◌-◌, ◌*◌, ◌^◌, ℕ};
 
 /// The length to look at next, of those above `low` up to `high`: the hint or the length nearest to
 /// it that leaves one binary digit less to search, whatever the look finds. So it is the least of

@@ -1,9 +1,9 @@
 //! Searches of a small table.
 
-ghost use Rattle.std.specs.Prelude.{◌≡◌, ◌<◌, [], ◌∷◌, IfOk, length};
+ghost use Rattle.std.specs.Prelude.{◌≡◌, ◌<◌, IfOk, length};
 ghost use Rattle.anchor_rules.specs.Items.{first_leaf};
 ghost use Rattle.row_words.specs.VecRows.{shape_of, words_of};
-ghost use Rattle.meta_trie.specs.Stands.{StandsFor, IsTable};
+ghost use Rattle.meta_trie.specs.Stands.{IsTable};
 
 use crate::{Hint, Sought, locate, longest, seek};
 use anchor_rules::Anchors;

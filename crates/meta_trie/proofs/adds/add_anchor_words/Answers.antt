@@ -1,4 +1,4 @@
-use Rattle.std.proofs.Common.{◌≡◌, ℕ, List, take, sym, ap, ◌∙◌, subst, true}
+use Rattle.std.proofs.Common.{◌≡◌, ℕ, take, sym, ap, ◌∙◌, subst, true}
 use Rattle.key_bytes.specs.Lengths.{IsKey}
 use Rattle.anchor_rules.specs.Anchors.{Anchors, splits}
 use Rattle.meta_trie.proofs.OnlyOne.{stands_only}
