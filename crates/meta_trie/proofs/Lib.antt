@@ -28,3 +28,4 @@ pub mod Copies
 pub mod Merging
 pub mod Room
 pub mod Turning
+pub mod NextLeaves

@@ -5,3 +5,4 @@ pub mod Grows
 pub mod Fits
 pub mod Shrinks
 pub mod Lags
+pub mod Links

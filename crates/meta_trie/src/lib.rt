@@ -3,6 +3,7 @@
 #![tactic(auto)]
 
 mod adds;
+mod beside;
 mod buckets;
 mod builds;
 mod changes;
@@ -21,6 +22,7 @@ mod starts;
 mod unlinks;
 
 pub use adds::{add_anchor, add_anchor_words};
+pub use beside::{Sides, neighbours};
 pub use builds::build;
 pub use free_leaves::{free_leaf, free_leaf_from};
 pub use lags::{Lag, turn_rows};
