@@ -8,6 +8,7 @@ use Rattle.command_line.specs.Number.{is_number, number}
 use Rattle.command_line.specs.Marks.{Mark, marks, positional}
 use Rattle.command_line.specs.Options.{are_choices, chosen, shape_with, is_shape}
 use Rattle.command_line.specs.declared.field.Field.{Field}
+use Rattle.command_line.specs.declared.command.TheConstants.{MOST_LINES}
 use Rattle.command_line.specs.declared.command.Command.{Command}
 use Rattle.command_line.specs.declared.command.Command.TheVariants.{Run, Fill}
 
@@ -16,9 +17,9 @@ abbrev pub run : List (List ℕ) → Shape → Option Command
 run [] k = Some (Run k)
 run (word ∷ words) k = None
 
--- a number of lines, at most 1,000,000
+-- a number of lines, at most `MOST_LINES`
 abbrev pub count_of : List ℕ → Option ℕ
-count_of word = if is_number word && nat_le (digits_value 10 word) 1000000 then Some (digits_value 10 word) else None
+count_of word = if is_number word && nat_le (digits_value 10 word) MOST_LINES then Some (digits_value 10 word) else None
 
 -- where both are numbers
 abbrev pub fill_with : Option ℕ → Option ℕ → Shape → Option Command

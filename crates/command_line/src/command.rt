@@ -9,6 +9,9 @@ use crate::choices::{Choices, Words, read_choices};
 use crate::number::read_number;
 use row_words::Shape;
 
+/// How many lines a fill has at most.
+pub const MOST_LINES: u64 = 1_000_000;
+
 /// What a program is asked for.
 #[derive(Clone, Copy, Debug, PartialEq, Eq)]
 pub enum Command {
@@ -99,7 +102,7 @@ fn read_count(word: &str) -> Option<u32>
     ensures { result ≡ count_of word.now }
 {
     match read_number(word) {
-        Some(count) if count <= 1_000_000 => u32::try_from(count).ok(),
+        Some(count) if count <= MOST_LINES => u32::try_from(count).ok(),
         _ => None,
     }
 }

@@ -10,5 +10,5 @@ mod number;
 #[cfg(test)]
 mod tests;
 
-pub use command::{Command, read_command};
+pub use command::{Command, MOST_LINES, read_command};
 pub use laws::{any_order, both_forms, same_ranges, worked_lines};
