@@ -5,6 +5,7 @@ use Rattle.std.specs.List.{list_any}
 use Rattle.std.proofs.lemmas.List.{append-nil}
 use mathlib.Core.List.{IsPrefix}
 use Rattle.counts.specs.Counts.{Rose}
+use Rattle.key_bytes.proofs.Conditions.{some_same}
 use Rattle.map_model.specs.History.{Entry, IsLegal}
 use Rattle.map_model.specs.Ordered.{Follows}
 use Rattle.map_model.specs.declared.refusal.Refusal.{Refusal}
@@ -42,13 +43,6 @@ all_taken t (Some now) bytes took ended = sym (took.1 ∙ (ap (λ l. bytes ++ l)
 -- a list that was written from nothing is what is told
 same_written : (out output : List ℕ) → Wrote (Some []) (Some out) output → out ≡ output
 same_written out output wrote = some_same out output wrote
-  where
-    some_value : Option (List ℕ) → List ℕ
-    some_value None = []
-    some_value (Some l) = l
-
-    some_same : (a b : List ℕ) → Some a ≡ Some b → a ≡ b
-    some_same a b same = ap some_value same
 
 module _ (number count : ℕ) (small : count ≤ 2 ^ 32) (t : Told) (left : t.left ≡ generated number count) (u : Option Told) where
   are : AreMade (made number count)

@@ -1,4 +1,5 @@
 mod Counting
+mod Cuts
 pub mod Filling
 pub mod MadeLines
 mod Requests

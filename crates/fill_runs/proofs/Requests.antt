@@ -3,6 +3,7 @@ use Rattle.std.proofs.Common.{◌≡◌, ℕ, zero, suc, ◌+◌, ◌/◌, ◌%�
 use Rattle.std.proofs.lemmas.Bool.{ne_eqb}
 use Rattle.std.proofs.lemmas.Fmt.{decimal_by_steps, length-decimal-le}
 use Rattle.std.specs.Prelude.{◌==◌, nat_lt, if◌then◌else◌}
+use Rattle.line_reader.specs.declared.limits.TheConstants.{LONGEST_LINE}
 use Rattle.line_protocol.specs.declared.fault.Fault.TheVariants.{Line}
 use Rattle.line_protocol.specs.declared.fault.RequestFault.{RequestFault}
 use Rattle.line_protocol.specs.declared.fault.RequestFault.TheVariants.{Fault}
@@ -40,9 +41,9 @@ scan_no_quit (Some words) =
 -- by its words, whatever its length is
 by_words : (line : List ℕ) → is_quit (asked (words_of line)) ≡ false → quits line ≡ false
 by_words line none =
-    elim (length line == 0) as (λ t. is_quit (if t then Ok None else if nat_lt 4096 (length line) then Err (Fault Line) else asked (words_of line)) ≡ false) [
+    elim (length line == 0) as (λ t. is_quit (if t then Ok None else if nat_lt LONGEST_LINE (length line) then Err (Fault Line) else asked (words_of line)) ≡ false) [
       | true ↦ refl
-      | false ↦ elim (nat_lt 4096 (length line)) as (λ t. is_quit (if t then Err (Fault Line) else asked (words_of line)) ≡ false) [ true ↦ refl | false ↦ none ]
+      | false ↦ elim (nat_lt LONGEST_LINE (length line)) as (λ t. is_quit (if t then Err (Fault Line) else asked (words_of line)) ≡ false) [ true ↦ refl | false ↦ none ]
     ]
 
 -- neither LF nor CR is among the bytes

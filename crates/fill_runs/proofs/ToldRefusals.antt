@@ -25,8 +25,10 @@ use Rattle.session.specs.Plain.{IsLineStart, HasLine, HasNoRefusal}
 use Rattle.session.specs.Replies.{refusal_line, end_line, pair_lines, reply_lines}
 use Rattle.session.specs.Scans.{EndsScan}
 use Rattle.session.specs.Transcripts.{Exchange, IsAnswered, IsRefused, IsServedAs, AreServed, text_of, IsTranscript}
-use Rattle.fill_runs.specs.Summary.{lines_behind, start_behind, has_word, counted}
-use Rattle.fill_runs.proofs.Counting.{lines_behind-append, start_behind-append}
+use Rattle.line_reader.specs.Cut.{open_part}
+use Rattle.line_reader.proofs.Cutting.{open_part-append}
+use Rattle.fill_runs.specs.Summary.{lines_behind, has_word, counted}
+use Rattle.fill_runs.proofs.Counting.{lines_behind-append}
 
 -- the line begins with these bytes
 abbrev begins : List ℕ → List ℕ → Bool
@@ -41,7 +43,7 @@ sound line = (not (begins (codes "FULL") line) || has_word (codes "FULL") line) 
 -- whole lines of which that holds
 record AreSound (said : List ℕ) : Type 0 where
   all : list_all sound (lines_behind [] said) ≡ true
-  none : start_behind [] said ≡ []
+  none : open_part [] said ≡ []
 
 list_all-both : (xs ys : List (List ℕ)) → list_all sound xs ≡ true → list_all sound ys ≡ true → list_all sound (xs ++ ys) ≡ true
 list_all-both [] ys first second = second
@@ -51,17 +53,17 @@ list_all-both (x ∷ xs) ys first second =
 sound-append : (xs ys : List ℕ) → AreSound xs → AreSound ys → AreSound (xs ++ ys)
 sound-append xs ys first second = record {
   all = ap (list_all sound) (lines_behind-append [] xs ys ∙ ap (λ s. lines_behind [] xs ++ lines_behind s ys) first.none) ∙ list_all-both (lines_behind [] xs) (lines_behind [] ys) first.all second.all;
-  none = start_behind-append [] xs ys ∙ (ap (λ s. start_behind s ys) first.none ∙ second.none);
+  none = open_part-append [] xs ys ∙ (ap (λ s. open_part s ys) first.none ∙ second.none);
 }
 
 -- bytes without LF end no line
-open_line : (start front : List ℕ) → All (λ b. b ≢ 10) front → (lines_behind start front ≡ []) × (start_behind start front ≡ start ++ front)
+open_line : (start front : List ℕ) → All (λ b. b ≢ 10) front → (lines_behind start front ≡ []) × (open_part start front ≡ start ++ front)
 open_line start [] none = (refl, sym (append-nil start))
 open_line start (b ∷ front) none =
     let other : eqb b 10 ≡ false = ne_eqb b 10 (none 0 0 (omega arith)) in
     let later = open_line (start ++ b ∷ []) front (All-tail (λ b. b ≢ 10) b front none) in (
       ap (λ t. cond t (start ∷ lines_behind [] front) (lines_behind (start ++ b ∷ []) front)) other ∙ later.0,
-      ap (λ t. cond t (start_behind [] front) (start_behind (start ++ b ∷ []) front)) other ∙ (later.1 ∙ append_assoc start (b ∷ []) front),
+      ap (λ t. cond t (open_part [] front) (open_part (start ++ b ∷ []) front)) other ∙ (later.1 ∙ append_assoc start (b ∷ []) front),
     )
 
 -- without the last byte
@@ -81,8 +83,8 @@ sound_line : (front : List ℕ) → sound front ≡ true → IsOneLine (front ++
 sound_line front is one =
     let same : one.0 ≡ front = sym (init_last one.0 10) ∙ (ap init (sym one.1) ∙ init_last front 10) in
     let bare = open_line [] front (subst (All (λ b. b ≢ 10)) same one.2) in record {
-      all = ap (list_all sound) (lines_behind-append [] front (10 ∷ []) ∙ (ap (λ ls. ls ++ start_behind [] front ∷ []) bare.0 ∙ ap (λ s. s ∷ []) bare.1)) ∙ ap (λ t. t && true) is;
-      none = start_behind-append [] front (10 ∷ []);
+      all = ap (list_all sound) (lines_behind-append [] front (10 ∷ []) ∙ (ap (λ ls. ls ++ open_part [] front ∷ []) bare.0 ∙ ap (λ s. s ∷ []) bare.1)) ∙ ap (λ t. t && true) is;
+      none = open_part-append [] front (10 ∷ []);
     }
 
 sound_answer : (answer : Answer) → AreSound (text answer)
@@ -161,9 +163,9 @@ first_line start (b ∷ line) back =
       | false ↦ let later = first_line (start ++ b ∷ []) line back in (b ∷ later.0, later.1, later.2 ∙ ap (λ l. l ∷ later.1) (append_assoc start (b ∷ []) later.0))
     ]
 
-no_start : (front : List ℕ) → IsLineStart front → start_behind [] front ≡ []
-no_start front (inl none) = ap (start_behind []) none
-no_start front (inr lines) = ap (start_behind []) lines.1 ∙ start_behind-append [] lines.0 (10 ∷ [])
+no_start : (front : List ℕ) → IsLineStart front → open_part [] front ≡ []
+no_start front (inl none) = ap (open_part []) none
+no_start front (inr lines) = ap (open_part []) lines.1 ∙ open_part-append [] lines.0 (10 ∷ [])
 
 sound_mid : (xs : List (List ℕ)) (y : List ℕ) (ys : List (List ℕ)) → list_all sound (xs ++ y ∷ ys) ≡ true → sound y ≡ true
 sound_mid [] y ys all = (elim (sound y) as (λ t. (t && list_all sound ys) ≡ true → t ≡ true) [ true ↦ λ rest. refl | false ↦ λ no. no ]) all

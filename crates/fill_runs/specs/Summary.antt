@@ -9,11 +9,6 @@ abbrev pub lines_behind : List ℕ → List ℕ → List (List ℕ)
 lines_behind start [] = []
 lines_behind start (b ∷ bytes) = if b == 10 then start ∷ lines_behind [] bytes else lines_behind (start ++ b ∷ []) bytes
 
--- the beginning of a line that stands behind them
-abbrev pub start_behind : List ℕ → List ℕ → List ℕ
-start_behind start [] = start
-start_behind start (b ∷ bytes) = if b == 10 then start_behind [] bytes else start_behind (start ++ b ∷ []) bytes
-
 -- the bytes before the first space
 abbrev pub first_word : List ℕ → List ℕ
 first_word [] = []

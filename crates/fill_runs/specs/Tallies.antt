@@ -1,7 +1,8 @@
 -- What is kept of a text that is gone.
 use Rattle.std.specs.Prelude.{◌≡◌, ℕ, ◌-◌, ◌^◌, min, List, [], ◌∷◌, ◌++◌, take, codes}
 use Rattle.line_protocol.specs.ReplyLine.{number_line}
-use Rattle.fill_runs.specs.Summary.{counted, start_behind, told_words}
+use Rattle.line_reader.specs.Cut.{open_part}
+use Rattle.fill_runs.specs.Summary.{counted, told_words}
 use Rattle.fill_runs.specs.declared.words.WordCounts.{WordCounts}
 
 -- the number of lines with this first word, which stands still at the end of its type
@@ -23,7 +24,7 @@ pub record AreCounts (c : WordCounts) (text : List ℕ) : Type 0 where
 -- the counts are those of the text, and the first bytes of the line behind its last LF are kept, so many that a longer word isn't taken for a told one
 pub record IsTallied (c : WordCounts) (start text : List ℕ) : Type 0 where
   pub counts : AreCounts c text
-  pub begun : start ≡ take 6 (start_behind [] text)
+  pub begun : start ≡ take 6 (open_part [] text)
 
 -- the counts, in the order in which they are told
 abbrev pub numbers_of : WordCounts → List ℕ

@@ -7,13 +7,11 @@ ghost use Rattle.fill_runs.specs.Summary.{summary};
 
 use crate::tally::Tally;
 use generated_lines::Generated;
+use line_reader::MOST_INPUT;
 use map_model::Ordered;
 use outside::{Sink, Stop};
 use session::{Bounded, SessionEnd, serve, write_all};
 use std::alloc::Global;
-
-/// More bytes than any number of generated lines has: 2^40.
-const MOST_BYTES: u64 = 1_099_511_627_776;
 
 /// How a fill ended.
 #[derive(Clone, Copy, Debug, PartialEq)]
@@ -83,7 +81,7 @@ fn serve_generated<O: Ordered>(
         &mut source,
         &mut tally,
         &mut patience,
-        MOST_BYTES,
+        MOST_INPUT,
     ) {
         // No line quits, so that Quit doesn't come.
         SessionEnd::EndOfInput | SessionEnd::Quit => Some(tally),

@@ -2,6 +2,7 @@
 #![tactic(auto)]
 
 mod fills;
+mod laws;
 mod summary;
 mod tally;
 #[cfg(test)]
@@ -9,4 +10,5 @@ mod tests;
 mod words;
 
 pub use fills::{FillEnd, fill};
+pub use laws::counts_lines_as_cut;
 pub use tally::Tally;

@@ -1,7 +1,8 @@
 //! Counts of lines by their first words.
 ghost use Rattle.std.specs.Prelude.{◌≡◌, ◌+◌, ◌-◌, ◌^◌, ◌∷◌, ◌++◌, ◌≤◌, min, ℕ, List, IfOk, [], take, if◌then◌else◌, vec_capacity};
 ghost use Rattle.std.specs.Str.{bytes_eq};
-ghost use Rattle.fill_runs.specs.Summary.{first_word, start_behind};
+ghost use Rattle.line_reader.specs.Cut.{open_part};
+ghost use Rattle.fill_runs.specs.Summary.{first_word};
 ghost use Rattle.fill_runs.specs.Tallies.{AreCounts, IsTallied};
 
 use std::alloc::{AllocError, Global};
@@ -40,7 +41,7 @@ impl WordCounts {
 
     /// Counts a line, of which the first bytes are at hand.
     fn add(&mut self, line: &[u8])
-        ensures { (text : List ℕ) → AreCounts self.old text → line.now ≡ take 6 (start_behind [] text)
+        ensures { (text : List ℕ) → AreCounts self.old text → line.now ≡ take 6 (open_part [] text)
             → AreCounts self.new (text ++ 10 ∷ []) }
     {
         let word = first_word(line);
