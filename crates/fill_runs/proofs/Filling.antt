@@ -6,6 +6,7 @@ use Rattle.std.proofs.lemmas.List.{append-nil}
 use mathlib.Core.List.{IsPrefix}
 use Rattle.counts.specs.Counts.{Rose}
 use Rattle.key_bytes.proofs.Conditions.{some_same}
+use Rattle.line_reader.specs.declared.limits.TheConstants.{MOST_INPUT}
 use Rattle.map_model.specs.History.{Entry, IsLegal}
 use Rattle.map_model.specs.Ordered.{Follows}
 use Rattle.map_model.specs.declared.refusal.Refusal.{Refusal}
@@ -61,7 +62,7 @@ module _ (number count : ℕ) (small : count ≤ 2 ^ 32) (t : Told) (left : t.le
   served_front bytes false took answered = let front = front_taken t u bytes took in some_served (made number count) bytes front.0 are (front.1 ∙ left)
 
   -- there are fewer bytes than a session may take
-  pub never_spent : (bytes : List ℕ) → Took (Some t) u bytes → length bytes ≡ 2 ^ 40 → ⊥
+  pub never_spent : (bytes : List ℕ) → Took (Some t) u bytes → length bytes ≡ MOST_INPUT → ⊥
   never_spent bytes took full =
       let front = front_taken t u bytes took in
       let whole : length (bytes ++ front.0) ≡ length (lines_text (made number count)) = ap length (front.1 ∙ left) in
@@ -71,7 +72,7 @@ module _ (number count : ℕ) (small : count ≤ 2 ^ 32) (t : Told) (left : t.le
 
   module _ (out : List ℕ) (lane : ℕ) (sole : Bool) (fits : List Entry → Type 0) (i j : ℕ) (m n : Option Refusal) (a b : List Entry → Type 0) where
     -- no line quits
-    pub all_by_quit : Session ends.Quit (2 ^ 40) (Some t) u (Some []) (Some out) (Some 1) lane sole fits i j m n a b → AllServed number count out lane sole fits i j m n a b
+    pub all_by_quit : Session ends.Quit MOST_INPUT (Some t) u (Some []) (Some out) (Some 1) lane sole fits i j m n a b → AllServed number count out lane sole fits i j m n a b
     all_by_quit s =
         let stays = (served_front s.bytes s.ended s.took s.answered).1 in
         let never : (old : List Entry) → a old → ⊥ = λ old is.
@@ -96,7 +97,7 @@ module _ (number count : ℕ) (small : count ≤ 2 ^ 32) (t : Told) (left : t.le
         ap (counted (codes "FULL")) (same_written out r.output r.said) ∙ uncounted (codes "FULL") r.output none
 
     -- the input came to its end
-    pub all_by_end : Session ends.EndOfInput (2 ^ 40) (Some t) u (Some []) (Some out) (Some 1) lane sole fits i j m n a b → AllServed number count out lane sole fits i j m n a b
+    pub all_by_end : Session ends.EndOfInput MOST_INPUT (Some t) u (Some []) (Some out) (Some 1) lane sole fits i j m n a b → AllServed number count out lane sole fits i j m n a b
     all_by_end s =
         let answered = subst (Ended (Some t) u) s.taken.1 s.answered in
         let same : served s.bytes s.ended ≡ made number count = ap (served s.bytes) s.taken.1 ∙ served_all s.bytes s.took answered in
@@ -104,7 +105,7 @@ module _ (number count : ℕ) (small : count ≤ 2 ^ 32) (t : Told) (left : t.le
         subst (λ o. Replies ends.EndOfInput (made number count) (Some []) (Some out) (Some 1) lane o fits i j m n [] found.0) alone (subst (λ all. Replies ends.EndOfInput all (Some []) (Some out) (Some 1) lane sole fits i j m n [] found.0) same found.2.replies) in record {
           replies = subst (λ all. Follows a b (Replies ends.EndOfInput all (Some []) (Some out) (Some 1) lane sole fits i j m n)) same (follows_weaker a b _ _ (λ old new p. p.replies) s.replies);
           plain = λ alone new full memory.
-              let p = plain_session ends.EndOfInput (2 ^ 40) (Some t) u (Some []) (Some out) (Some 1) lane fits i j m n a b new (subst (λ o. Session ends.EndOfInput (2 ^ 40) (Some t) u (Some []) (Some out) (Some 1) lane o fits i j m n a b) alone s) in
+              let p = plain_session ends.EndOfInput MOST_INPUT (Some t) u (Some []) (Some out) (Some 1) lane fits i j m n a b new (subst (λ o. Session ends.EndOfInput MOST_INPUT (Some t) u (Some []) (Some out) (Some 1) lane o fits i j m n a b) alone s) in
               let told = same_written out p.output p.wrote in
               let r = (s.replies [] new).2.replies in
               let none : HasNoRefusal out = subst HasNoRefusal (sym (same_written out r.output r.said)) (none_counted (Some 1) lane sole fits [] r.lines r.entries r.output r.transcript
@@ -116,7 +117,7 @@ module _ (number count : ℕ) (small : count ≤ 2 ^ 32) (t : Told) (left : t.le
         }
 
     -- memory was wanting
-    pub some_by_want : Session ends.NoMemory (2 ^ 40) (Some t) u (Some []) (Some out) (Some 1) lane sole fits i j m n a b → SomeServed number count lane sole fits i j m n a b
+    pub some_by_want : Session ends.NoMemory MOST_INPUT (Some t) u (Some []) (Some out) (Some 1) lane sole fits i j m n a b → SomeServed number count lane sole fits i j m n a b
     some_by_want s = (
       out,
       λ old is.
@@ -139,24 +140,24 @@ module _ (number count : ℕ) (small : count ≤ 2 ^ 32) (t : Told) (left : t.le
     )
 
     -- the two ends that leave an output, and those that don't come
-    pub all_by : (end : SessionEnd) (w : List ℕ) → w ≡ [] → (end ≡ ends.EndOfInput) ⊎ (end ≡ ends.Quit) → Session end (2 ^ 40) (Some t) u (Some w) (Some out) (Some 1) lane sole fits i j m n a b → AllServed number count out lane sole fits i j m n a b
+    pub all_by : (end : SessionEnd) (w : List ℕ) → w ≡ [] → (end ≡ ends.EndOfInput) ⊎ (end ≡ ends.Quit) → Session end MOST_INPUT (Some t) u (Some w) (Some out) (Some 1) lane sole fits i j m n a b → AllServed number count out lane sole fits i j m n a b
     all_by end w empty (inl is) s =
-        all_by_end (subst (λ e. Session e (2 ^ 40) (Some t) u (Some []) (Some out) (Some 1) lane sole fits i j m n a b) is (subst (λ l. Session end (2 ^ 40) (Some t) u (Some l) (Some out) (Some 1) lane sole fits i j m n a b) empty s))
+        all_by_end (subst (λ e. Session e MOST_INPUT (Some t) u (Some []) (Some out) (Some 1) lane sole fits i j m n a b) is (subst (λ l. Session end MOST_INPUT (Some t) u (Some l) (Some out) (Some 1) lane sole fits i j m n a b) empty s))
     all_by end w empty (inr is) s =
-        all_by_quit (subst (λ e. Session e (2 ^ 40) (Some t) u (Some []) (Some out) (Some 1) lane sole fits i j m n a b) is (subst (λ l. Session end (2 ^ 40) (Some t) u (Some l) (Some out) (Some 1) lane sole fits i j m n a b) empty s))
+        all_by_quit (subst (λ e. Session e MOST_INPUT (Some t) u (Some []) (Some out) (Some 1) lane sole fits i j m n a b) is (subst (λ l. Session end MOST_INPUT (Some t) u (Some l) (Some out) (Some 1) lane sole fits i j m n a b) empty s))
 
-    pub want_by : (w : List ℕ) → w ≡ [] → Session ends.NoMemory (2 ^ 40) (Some t) u (Some w) (Some out) (Some 1) lane sole fits i j m n a b → SomeServed number count lane sole fits i j m n a b
-    want_by w empty s = some_by_want (subst (λ l. Session ends.NoMemory (2 ^ 40) (Some t) u (Some l) (Some out) (Some 1) lane sole fits i j m n a b) empty s)
+    pub want_by : (w : List ℕ) → w ≡ [] → Session ends.NoMemory MOST_INPUT (Some t) u (Some w) (Some out) (Some 1) lane sole fits i j m n a b → SomeServed number count lane sole fits i j m n a b
+    want_by w empty s = some_by_want (subst (λ l. Session ends.NoMemory MOST_INPUT (Some t) u (Some l) (Some out) (Some 1) lane sole fits i j m n a b) empty s)
 
     pub never_by : (end : SessionEnd) (w : Option (List ℕ)) → (end ≡ ends.ReadFault → Rose 0 0) → (end ≡ ends.WriteFault → Rose 0 0) → (end ≡ ends.ReadFault) ⊎ (end ≡ ends.WriteFault) ⊎ ((taken : ℕ) × (end ≡ ends.Spent taken))
-        → Session end (2 ^ 40) (Some t) u w (Some out) (Some 1) lane sole fits i j m n a b → ⊥
+        → Session end MOST_INPUT (Some t) u w (Some out) (Some 1) lane sole fits i j m n a b → ⊥
     never_by end w read write (inl is) s = let rose = read is in absurd (omega (arith, rose))
     never_by end w read write (inr (inl is)) s = let rose = write is in absurd (omega (arith, rose))
     never_by end w read write (inr (inr spent)) s =
-        let taken = subst (λ e. TakenBy e (2 ^ 40) s.bytes s.ended) spent.1 s.taken in never_spent s.bytes s.took taken.0
+        let taken = subst (λ e. TakenBy e MOST_INPUT s.bytes s.ended) spent.1 s.taken in never_spent s.bytes s.took taken.0
 
 -- memory was wanting before the first line
 pub none_by_want : (number count : ℕ) → count ≤ 2 ^ 32 → (lane : ℕ) (sole : Bool) (fits : List Entry → Type 0) (i : ℕ) (m : Option Refusal) (a : List Entry → Type 0) → ((old : List Entry) → a old → IsLegal old) → SomeServed number count lane sole fits i i m m a a
 none_by_want number count small lane sole fits i m a legal =
     let t : Told = record { given = []; left = generated number count; ended = false } in
-    some_by_want number count small t refl (Some t) [] lane sole fits i i m m a a (ends_early (2 ^ 40) (Some t) (Some []) (Some 1) lane sole fits i m a legal)
+    some_by_want number count small t refl (Some t) [] lane sole fits i i m m a a (ends_early MOST_INPUT (Some t) (Some []) (Some 1) lane sole fits i m a legal)
