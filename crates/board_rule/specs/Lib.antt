@@ -1,0 +1,10 @@
+pub mod Notes
+pub mod Cells
+pub mod Changes
+pub mod Pins
+pub mod Views
+pub mod Rule
+pub mod Steps
+pub mod Passes
+pub mod Start
+pub mod Made
