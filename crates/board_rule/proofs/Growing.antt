@@ -14,7 +14,7 @@ use Rattle.row_words.specs.Shape.{IsShape}
 use Rattle.map_model.specs.History.{Entry, own}
 use Rattle.anchor_rules.specs.Anchors.{Anchors}
 use Rattle.board_rule.specs.declared.view.View.{View}
-use Rattle.board_rule.specs.declared.leaf.Lag.{Lag}
+use Rattle.meta_trie.specs.declared.lags.Lag.{Lag}
 use Rattle.board_rule.specs.declared.leaf.Place.{Place}
 use Rattle.board_rule.specs.Cells.{Content, Holding, Spot, at_home}
 use Rattle.board_rule.specs.Pins.{Pin, Spare, LagSpot}

@@ -6,7 +6,7 @@ use lib.ListN.{get_elem?, length-map}
 use Rattle.atomic_table.proofs.Lists.{at_snoc}
 use Rattle.board_rule.specs.declared.leaf.Place.{Place}
 use Rattle.board_rule.specs.declared.leaf.Place.TheVariants.{Home, Lag as LagHome}
-use Rattle.board_rule.specs.declared.leaf.Lag.TheVariants.{Same}
+use Rattle.meta_trie.specs.declared.lags.Lag.TheVariants.{Same}
 use Rattle.board_rule.specs.Cells.{Content}
 use Rattle.atomic_table.specs.Table.{opening}
 use Rattle.row_words.specs.declared.shape.Shape.{Shape}

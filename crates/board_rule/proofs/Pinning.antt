@@ -15,7 +15,7 @@ use Rattle.map_model.specs.History.{own}
 use Rattle.anchor_rules.specs.Anchors.{Anchors, span}
 use Rattle.meta_trie.specs.Stands.{StandsFor}
 use Rattle.board_rule.specs.declared.view.View.{View}
-use Rattle.board_rule.specs.declared.leaf.Lag.{Lag}
+use Rattle.meta_trie.specs.declared.lags.Lag.{Lag}
 use Rattle.board_rule.specs.declared.leaf.Place.{Place}
 use Rattle.board_rule.specs.Cells.{Cell}
 use Rattle.board_rule.specs.Pins.{Pin, LagSpot, lag_home, lag_moving, Spare, Lagging, behind, clearing, spare_at, pin_on}

@@ -17,9 +17,9 @@ use Rattle.map_model.specs.Halves.{stay_count, parting}
 use Rattle.leaf_spans.proofs.Halving.{parting_splits, split_stay, split_go}
 use Rattle.leaf_spans.proofs.Merging.{merge_pairs, merge_emptied}
 use Rattle.board_rule.specs.declared.view.View.{View}
-use Rattle.board_rule.specs.declared.leaf.Lag.{Lag}
-use Rattle.board_rule.specs.declared.leaf.Lag.TheVariants.{Same, Split, Merge}
-use Rattle.board_rule.specs.Changes.{turned, CanTurn}
+use Rattle.meta_trie.specs.declared.lags.Lag.{Lag}
+use Rattle.meta_trie.specs.declared.lags.Lag.TheVariants.{Same, Split, Merge}
+use Rattle.meta_trie.specs.Lags.{turned, CanTurn}
 use Rattle.board_rule.specs.Pins.{lag_home, Spare}
 use Rattle.board_rule.specs.Cells.{Map, Holding, Cell, taken, map_of, mine}
 use Rattle.board_rule.specs.Views.{VERSION, GIVEN, held_at, remapped, published, has}

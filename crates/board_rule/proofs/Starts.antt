@@ -17,7 +17,7 @@ use Rattle.anchor_rules.proofs.Sizes.{sizes_first}
 use Rattle.meta_trie.specs.Stands.{StandsFor}
 use Rattle.leaf_spans.specs.Spread.{inside}
 use Rattle.board_rule.specs.declared.view.View.{View}
-use Rattle.board_rule.specs.declared.leaf.Lag.TheVariants.{Same}
+use Rattle.meta_trie.specs.declared.lags.Lag.TheVariants.{Same}
 use Rattle.board_rule.specs.declared.leaf.Place.TheVariants.{Home, Lag as LagHome}
 use Rattle.board_rule.proofs.Sums.{at_below}
 use Rattle.board_rule.specs.Cells.{Content, Cell, free, map_of, word_of, mine}

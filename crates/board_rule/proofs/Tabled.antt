@@ -11,9 +11,9 @@ use Rattle.row_words.specs.declared.shape.Shape.{Shape}
 use Rattle.anchor_rules.specs.Anchors.{Anchors}
 use Rattle.meta_trie.specs.Stands.{StandsFor}
 use Rattle.board_rule.specs.declared.view.View.{View}
-use Rattle.board_rule.specs.declared.leaf.Lag.{Lag}
+use Rattle.meta_trie.specs.declared.lags.Lag.{Lag}
 use Rattle.board_rule.specs.declared.leaf.Place.{Place}
-use Rattle.board_rule.specs.Changes.{turned, CanTurn}
+use Rattle.meta_trie.specs.Lags.{turned, CanTurn}
 use Rattle.board_rule.specs.Pins.{Pin, lag_home, Spare, Lagging, behind, clearing, spare_at, segment, pin_on}
 use Rattle.board_rule.specs.Rule.{row_count, table_at, rows_of, lag_place, PinOk, PinIs, Behind, Clearing, LagIs, Tables, PinPlaced, total}
 use Rattle.board_rule.specs.Views.{PINS}

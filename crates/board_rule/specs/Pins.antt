@@ -1,7 +1,7 @@
 -- Pins on tables, and what is known of the spare table and of the lag record.
 use Rattle.std.specs.Prelude.{ℕ, List, take, drop, cond, ◌==◌, Option, Some, None}
 use Rattle.anchor_rules.specs.Anchors.{Anchors}
-use Rattle.board_rule.specs.declared.leaf.Lag.{Lag}
+use Rattle.meta_trie.specs.declared.lags.Lag.{Lag}
 
 -- a pin on a table, with the version by which it was chosen
 pub record Pin : Type 0 where

@@ -15,11 +15,11 @@ use Rattle.anchor_rules.specs.Tally.{Tally, sizes_of}
 use Rattle.meta_trie.specs.Stands.{StandsFor}
 use Rattle.leaf_spans.specs.Spread.{inside}
 use Rattle.board_rule.specs.declared.view.View.{View}
-use Rattle.board_rule.specs.declared.leaf.Lag.{Lag}
+use Rattle.meta_trie.specs.declared.lags.Lag.{Lag}
 use Rattle.board_rule.specs.declared.leaf.Place.{Place}
 use Rattle.board_rule.specs.declared.leaf.Place.TheVariants.{Home, Out, Lag as LagHome}
 use Rattle.board_rule.specs.Notes.{Note, IsLastNote}
-use Rattle.board_rule.specs.Changes.{turned, CanTurn}
+use Rattle.meta_trie.specs.Lags.{turned, CanTurn}
 use Rattle.board_rule.specs.Pins.{Pin, LagSpot, lag_home, lag_away, lag_moving, Spare, Lagging, behind, clearing, spare_at, segment, pin_on}
 use Rattle.board_rule.specs.Cells.{Spot, at_home, away, moving, Cell, free, taken, word_of, map_of, mine}
 use Rattle.board_rule.specs.Views.{VERSION, TURN, GIVEN, PINS, LEAVES}

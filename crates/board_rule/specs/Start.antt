@@ -5,7 +5,7 @@ use Rattle.row_words.specs.declared.shape.Shape.{Shape}
 use Rattle.meta_trie.specs.Stands.{StandsFor}
 use Rattle.board_rule.specs.declared.view.View.{View}
 use Rattle.board_rule.specs.declared.opening.Opening.{Opening}
-use Rattle.board_rule.specs.declared.leaf.Lag.TheVariants.{Same}
+use Rattle.meta_trie.specs.declared.lags.Lag.TheVariants.{Same}
 use Rattle.board_rule.specs.declared.leaf.Place.{Place}
 use Rattle.board_rule.specs.declared.leaf.Place.TheVariants.{Home, Lag as LagHome}
 use Rattle.board_rule.specs.Cells.{Content}

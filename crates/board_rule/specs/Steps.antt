@@ -13,12 +13,12 @@ use Rattle.leaf_spans.specs.Spread.{inside}
 use Rattle.leaf_spans.specs.Calls.{Lies}
 use Rattle.map_model.specs.Halves.{stay_count, parting}
 use Rattle.board_rule.specs.declared.view.View.{View}
-use Rattle.board_rule.specs.declared.leaf.Lag.{Lag}
-use Rattle.board_rule.specs.declared.leaf.Lag.TheVariants.{Same, Split, Merge}
+use Rattle.meta_trie.specs.declared.lags.Lag.{Lag}
+use Rattle.meta_trie.specs.declared.lags.Lag.TheVariants.{Same, Split, Merge}
 use Rattle.board_rule.specs.declared.leaf.Place.{Place}
 use Rattle.board_rule.specs.declared.leaf.Place.TheVariants.{Home, Out, Lag as LagHome}
 use Rattle.board_rule.specs.Notes.{Note, IsNoted}
-use Rattle.board_rule.specs.Changes.{turned, CanTurn}
+use Rattle.meta_trie.specs.Lags.{turned, CanTurn}
 use Rattle.board_rule.specs.Rule.{row_count, leaf_word, table_at, IsMet}
 use Rattle.board_rule.specs.Pins.{Pin, Spare, LagSpot, lag_home, lag_away, lag_moving}
 use Rattle.board_rule.specs.Cells.{Map, Content, shown, Holding, Spot, at_home, away, moving}

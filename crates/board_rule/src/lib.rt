@@ -11,14 +11,12 @@ mod opening;
 mod pin_steps;
 mod rule;
 mod spare_steps;
-#[cfg(test)]
-mod tests;
 mod turn_steps;
 mod view;
 
 pub use board::{Board, Event, Pass};
 pub use lane_steps::{enrol, join, split};
-pub use leaf::{Lag, Place};
+pub use leaf::Place;
 pub use leaf_steps::{lock, look, move_leaf_in, move_leaf_out, unlock};
 pub use opening::Opening;
 pub use pin_steps::{check, pin, read, unpin};

@@ -8,11 +8,11 @@ ghost use Rattle.board_rule.specs.Made.{front_words, AreEmpty};
 ghost use Rattle.board_rule.specs.Passes.{view, IsOf};
 
 use crate::board::{Board, Pass};
-use crate::leaf::{Lag, Place};
+use crate::leaf::Place;
 use crate::opening::Opening;
 use atomic_table::{Refused, Table};
 use leaf_store::Leaf;
-use meta_trie::start_zeroed;
+use meta_trie::{Lag, start_zeroed};
 use row_words::{RowsMut, Shape, VecRows};
 use std::alloc::{AllocError, Global};
 

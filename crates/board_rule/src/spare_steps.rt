@@ -8,7 +8,8 @@ ghost use Rattle.board_rule.specs.Steps.{Grew, current, HasSpare, kept_spare, la
 ghost use Rattle.board_rule.specs.Passes.{view, IsOf};
 
 use crate::board::{Board, Pass};
-use crate::leaf::{Lag, Place};
+use crate::leaf::Place;
+use meta_trie::Lag;
 use std::marker::Brand;
 
 const VERSION_WORD: usize = 0;
