@@ -1,5 +1,5 @@
 -- What a step may tell of the word that it finds.
-use Rattle.std.proofs.Common.{◌≡◌, ◌≢◌, ℕ, ◌+◌, ◌/◌, ◌%◌, ◌^◌, ◌<◌, ◌≤◌, List, [], ◌∷◌, ◌++◌, length, get_or, set, sym, refl, ap, ◌∙◌, subst, arith, cond, eqb, eq-eqb, ne_eqb, eqb-true, Option, Some, None, Bool, true, false, true≢false}
+use Rattle.std.proofs.Common.{◌≡◌, ◌≢◌, ℕ, ◌+◌, ◌/◌, ◌%◌, ◌<◌, ◌≤◌, get_or, sym, refl, ap, ◌∙◌, subst, arith, cond, eqb, eq-eqb, ne_eqb, eqb-true, Some, None, true, false, true≢false}
 use mathlib.Core.Logic.{dite}
 use mathlib.Core.Option.{some}
 use native.Mathlib.Decide.{ℕ_discrete}
@@ -10,11 +10,11 @@ use Rattle.anchor_rules.specs.Anchors.{Anchors}
 use Rattle.board_rule.specs.declared.view.View.{View}
 use Rattle.board_rule.specs.Cells.{Cell, free, taken, Holding}
 use Rattle.board_rule.specs.Views.{VERSION, GIVEN, TURN, looked, held_at}
-use Rattle.board_rule.specs.Rule.{leaf_word, Turn, turn_word, has_turn, bit, is_some, has_number, counts, total, Kept}
+use Rattle.board_rule.specs.Rule.{leaf_word, Turn, turn_word, has_turn, bit, is_some, counts, Kept}
 use Rattle.board_rule.specs.Steps.{Sat, FindsLeaf, FindsVersion, FindsGiven, FindsTurn, Looks}
-use Rattle.board_rule.proofs.Sums.{there, at_below, term_le, total_le}
+use Rattle.board_rule.proofs.Sums.{there, total_le}
 use Rattle.board_rule.proofs.Parts.{mine_held}
-use Rattle.board_rule.proofs.Keeps.{St, board, unmoved, knew, lone}
+use Rattle.board_rule.proofs.Keeps.{St, unmoved, knew, lone}
 use Rattle.board_rule.proofs.Soles.{sole_leaf, sole_turn}
 
 module _ (k : Shape) (s : St) (o : Kept k s) (id : ℕ) (v : View) (at : get_elem? s.views id ≡ some v) where
@@ -107,11 +107,14 @@ looks k n id m word s o wide at _ = (
   keeps,
   tt,
   unmoved k s o id word m.0 at,
-  (refl, record {
-    knew = knew k s o id word m.0 at;
-    leaf = λ leaf near is. subst (λ (i : ℕ). FindsLeaf i leaf m.0 (get_or s.words i 0)) (sym is) (finds_leaf k s o id m.0 at leaf near);
-    version = λ is. subst (λ (i : ℕ). FindsVersion m.0 (get_or s.words i 0)) (sym is) (finds_version k s o id m.0 at);
-    given = λ is. subst (λ (i : ℕ). FindsGiven k m.0 (get_or s.words i 0)) (sym is) (finds_given k s o id m.0 at);
-    turn = λ is. subst (λ (i : ℕ). FindsTurn m.0 (get_or s.words i 0)) (sym is) (finds_turn k s o id m.0 at);
-  }),
+  (
+    refl,
+    record {
+      knew = knew k s o id word m.0 at;
+      leaf = λ leaf near is. subst (λ (i : ℕ). FindsLeaf i leaf m.0 (get_or s.words i 0)) (sym is) (finds_leaf k s o id m.0 at leaf near);
+      version = λ is. subst (λ (i : ℕ). FindsVersion m.0 (get_or s.words i 0)) (sym is) (finds_version k s o id m.0 at);
+      given = λ is. subst (λ (i : ℕ). FindsGiven k m.0 (get_or s.words i 0)) (sym is) (finds_given k s o id m.0 at);
+      turn = λ is. subst (λ (i : ℕ). FindsTurn m.0 (get_or s.words i 0)) (sym is) (finds_turn k s o id m.0 at);
+    },
+  ),
 )

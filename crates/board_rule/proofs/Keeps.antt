@@ -1,32 +1,30 @@
 -- Each step keeps the rule.
-use Rattle.std.proofs.Common.{◌≡◌, ℕ, zero, suc, ◌+◌, ◌/◌, ◌%◌, ◌^◌, ◌<◌, ◌≤◌, eqb, cond, ◌≢◌, ◌⊎◌, List, [], ◌∷◌, ◌++◌, map, length, get_or, set, sym, refl, ap, ◌∙◌, subst, inl, inr, ⊎_elim, arith, length-set, get_or-set_other, get_or-set_same, Option, Some, None, Bool, true, false, nat_lt, eq-eqb, le-ltb}
+use Rattle.std.proofs.Common.{◌≡◌, ℕ, zero, suc, ◌+◌, ◌/◌, ◌^◌, ◌<◌, ◌≤◌, ◌≢◌, ◌⊎◌, List, [], ◌∷◌, map, length, get_or, set, sym, refl, ap, ◌∙◌, subst, inl, inr, ⊎_elim, arith, length-set, get_or-set_other, get_or-set_same, Option, Some, None, Bool, true, false, nat_lt, eq-eqb, le-ltb}
 use mathlib.Core.Logic.{dite}
 use mathlib.Core.Option.{some, some-injective, some-ne-none}
 use mathlib.Core.Option as maybe
 use native.Mathlib.Decide.{ℕ_discrete, dec_le}
-use lib.ListN.{get_elem?, length-map}
+use lib.ListN.{get_elem?}
 use lib.Seq.{set-get_or, map-set}
-use prog.Atomic.{either}
-use Rattle.atomic_table.specs.Table.{State, step, Act, keeps, takes, gives, Valid, carried_after, stepped, opening, Allows, Splits, Joins}
-use Rattle.atomic_table.proofs.Lists.{set_here, set_else, set_again, at_map, exchanged}
+use Rattle.atomic_table.specs.Table.{State, Act, Valid, carried_after, stepped, Allows}
+use Rattle.atomic_table.proofs.Lists.{set_here, set_else, set_again, at_map}
 use Rattle.row_words.specs.declared.shape.Shape.{Shape}
 use Rattle.board_rule.specs.declared.view.View.{View}
 use Rattle.board_rule.specs.declared.leaf.Place.{Place}
 use mathlib.Core.List.{IsPrefix}
-use Rattle.map_model.specs.Calls.{Call, Reply, answer_of, map_after}
 use Rattle.map_model.specs.History.{Entry, after, IsLegal, own, IsNumbered}
-use Rattle.map_model.proofs.Histories.{after-push, ascending_history, legal-push, numbered-push, own-push_other, begins_itself}
-use Rattle.anchor_rules.specs.Anchors.{Anchors, Span, span, AreAnchors}
+use Rattle.map_model.proofs.Histories.{begins_itself}
+use Rattle.anchor_rules.specs.Anchors.{Anchors, span}
 use Rattle.leaf_spans.specs.Spread.{inside}
-use Rattle.board_rule.specs.Cells.{Map, Content, Spot, at_home, moving, Holding, Cell, free, taken, word_of, map_of, mine}
+use Rattle.board_rule.specs.Cells.{Cell, word_of, map_of, mine}
 use Rattle.board_rule.specs.Notes.{Note}
 use Rattle.board_rule.specs.Views.{GIVEN, looked}
-use Rattle.board_rule.specs.Rule.{leaf_word, place_of, home_of, CellOk, Placed, LaneIs, SeatBelow, Holds, Knows, Shares, Counted, expected, Turn, turn_word, has_turn, Dated, TurnIs, NotesOk, CurrentOk, Tables, bit, is_some, counts, times, has_number, Numbers, IsMet, Lasts, Alone, Kept}
+use Rattle.board_rule.specs.Rule.{leaf_word, home_of, CellOk, Placed, LaneIs, SeatBelow, Holds, Knows, Shares, Counted, expected, Turn, turn_word, Dated, TurnIs, NotesOk, CurrentOk, Tables, bit, is_some, counts, times, has_number, Numbers, IsMet, Lasts, Alone, Kept}
 use Rattle.board_rule.specs.Steps.{Sat, Grew, Knew}
 use Rattle.board_rule.proofs.Lasting.{Rises, rises_same, rises_leaf, lasts_rise, lasts_look, look_now}
 use Rattle.board_rule.proofs.Tabled.{Agrees, agrees, agrees_set, tables_keep}
-use Rattle.board_rule.proofs.Parts.{placed_move, home_stays, mine_same, mine_other, holds_mine, holds_else, is_free, held_cell}
-use Rattle.board_rule.proofs.Sums.{there, at_below, each_set, term_le, terms_le, total-same}
+use Rattle.board_rule.proofs.Parts.{placed_move, holds_mine, holds_else}
+use Rattle.board_rule.proofs.Sums.{at_below, each_set, term_le, terms_le, total-same}
 
 abbrev pub St : Type 0
 St = State Place View

@@ -15,16 +15,16 @@ use Rattle.board_rule.specs.declared.leaf.Place.{Place}
 use mathlib.Core.List.{IsPrefix}
 use Rattle.map_model.specs.History.{Entry, own}
 use Rattle.board_rule.specs.Cells.{Holding, Cell, free, taken, mine}
-use Rattle.board_rule.specs.Views.{VERSION, GIVEN, enrolled, nothing, kept_half, new_half, drew, option_list, lanes_of, longer, greater, both_views, spent_of, HoldsNone}
-use Rattle.board_rule.specs.Rule.{leaf_word, LaneIs, SeatBelow, Holds, Knows, LagIs, expected, Turn, has_turn, TurnIs, NotesOk, CurrentOk, bit, is_some, counts, times, has_number, total, IsMet, Numbers, LookOk, Lasting, Lasts, Alone, Kept}
+use Rattle.board_rule.specs.Views.{GIVEN, enrolled, nothing, kept_half, new_half, drew, option_list, lanes_of, longer, greater, both_views, spent_of, HoldsNone}
+use Rattle.board_rule.specs.Rule.{leaf_word, LaneIs, SeatBelow, Holds, Knows, LagIs, expected, Turn, has_turn, TurnIs, NotesOk, CurrentOk, bit, is_some, counts, times, has_number, total, IsMet, Numbers, LookOk, Lasts, Alone, Kept}
 use Rattle.board_rule.specs.Steps.{Sat, Enrols, Meets}
 use Rattle.board_rule.specs.Pins.{Lagging, behind, clearing, spare_at, pin_on}
 use Rattle.board_rule.proofs.Tabled.{agrees_set, spare_else, IsLike, tables_views}
 use Rattle.board_rule.proofs.Histories.{begins_longer, own_between, begins_whole, own_none}
 use Rattle.board_rule.proofs.Lasting.{Rises, lasts_rise, lasts_look}
-use Rattle.board_rule.proofs.Sums.{at_below, each_set, each_split, each_join, total-append, total-set, total-same, total_lt, term_le, total_le, sum_to, sum_to_le, sum_to_one, counted_twice}
+use Rattle.board_rule.proofs.Sums.{at_below, each_set, each_split, each_join, total-append, total-set, total-same, total_lt, term_le, sum_to, sum_to_le, sum_to_one, counted_twice}
 use Rattle.board_rule.proofs.Parts.{placed_low}
-use Rattle.board_rule.proofs.Keeps.{St, board, rebuild, knew, Whole, numbers_same, lone_self, bit_le}
+use Rattle.board_rule.proofs.Keeps.{St, board, rebuild, knew, Whole, bit_le}
 
 pub enrols : (k : Shape) (n id : ℕ) (m : Sat) → 0 < m.0.room → m.0.drawn ≡ None → Allows (Kept k) n id m GIVEN (λ x. (x + 1) % 2 ^ 64) (Enrols k m)
 enrols k n id m room none-drawn s o wide at _ =
@@ -272,11 +272,13 @@ joins_views k id v other u its-lane laned bare idle unpinned s o at apart there'
             (λ (t : (j : ℕ) × (get_elem? (option_list u.lane) j ≡ some lane)). keeps-own lane (inr (theirs.mine lane (at_option u.lane t.0 lane t.1))))
             (at_append (v.ended ++ u.ended) (option_list u.lane) i lane e);
         drawn = mine.drawn;
-        met = met_two (IsMet (longer v.seen u.seen)) (lanes_of v, v.seen) (lanes_of u, u.seen)
-            (longer_is (λ l. IsPrefix v.seen l) v.seen u.seen (λ _. ([], append-nil v.seen)) (λ le. begins_longer o.log v.seen u.seen mine.begins theirs.begins le),
-            (λ i lane e. ⊎_elim (λ (q : v.lane ≡ Some lane). sym (mine.mine lane q) ∙ keeps-own lane (inl (mine.mine lane q))) (λ (q : (j : ℕ) × (get_elem? v.ended j ≡ some lane)). sym (mine.ended q.0 lane q.1) ∙ keeps-own lane (inl (mine.ended q.0 lane q.1))) (its-own v i lane e)))
-            (longer_is (λ l. IsPrefix u.seen l) v.seen u.seen (λ le. begins_longer o.log u.seen v.seen theirs.begins mine.begins le) (λ _. ([], append-nil u.seen)),
-            (λ i lane e. ⊎_elim (λ (q : u.lane ≡ Some lane). sym (theirs.mine lane q) ∙ keeps-own lane (inr (theirs.mine lane q))) (λ (q : (j : ℕ) × (get_elem? u.ended j ≡ some lane)). sym (theirs.ended q.0 lane q.1) ∙ keeps-own lane (inr (theirs.ended q.0 lane q.1))) (its-own u i lane e)));
+        met = met_two (IsMet (longer v.seen u.seen)) (lanes_of v, v.seen) (lanes_of u, u.seen) (
+          longer_is (λ l. IsPrefix v.seen l) v.seen u.seen (λ _. ([], append-nil v.seen)) (λ le. begins_longer o.log v.seen u.seen mine.begins theirs.begins le),
+          (λ i lane e. ⊎_elim (λ (q : v.lane ≡ Some lane). sym (mine.mine lane q) ∙ keeps-own lane (inl (mine.mine lane q))) (λ (q : (j : ℕ) × (get_elem? v.ended j ≡ some lane)). sym (mine.ended q.0 lane q.1) ∙ keeps-own lane (inl (mine.ended q.0 lane q.1))) (its-own v i lane e)),
+        ) (
+          longer_is (λ l. IsPrefix u.seen l) v.seen u.seen (λ le. begins_longer o.log u.seen v.seen theirs.begins mine.begins le) (λ _. ([], append-nil u.seen)),
+          (λ i lane e. ⊎_elim (λ (q : u.lane ≡ Some lane). sym (theirs.mine lane q) ∙ keeps-own lane (inr (theirs.mine lane q))) (λ (q : (j : ℕ) × (get_elem? u.ended j ≡ some lane)). sym (theirs.ended q.0 lane q.1) ∙ keeps-own lane (inr (theirs.ended q.0 lane q.1))) (its-own u i lane e)),
+        );
       }
           record { begins = (o.log, refl); mine = λ lane e. absurd (cc); ended = λ i lane e. absurd (some-ne-none lane (sym e)); drawn = λ x e. absurd (cc); met = λ i x e. absurd (some-ne-none x (sym e)) }
           (λ j x _ _ e. o.seen j x e);

@@ -1,9 +1,6 @@
 -- Locking a leaf, giving it back, and moving its content.
-use Rattle.std.proofs.Common.{◌≡◌, ℕ, zero, suc, ◌+◌, ◌/◌, ◌%◌, ◌^◌, ◌<◌, ◌≤◌, eqb, cond, ◌≢◌, List, [], ◌∷◌, ◌++◌, map, length, get_or, set, sym, refl, ap, ◌∙◌, subst, inl, inr, arith, get_or-set_other, get_or-set_same, Option, Some, None, Bool, true, false}
-use mathlib.Core.Logic.{dite}
+use Rattle.std.proofs.Common.{◌≡◌, ℕ, ◌+◌, ◌/◌, ◌%◌, ◌<◌, ◌≤◌, eqb, cond, List, [], ◌∷◌, ◌++◌, length, get_or, set, sym, refl, ap, ◌∙◌, subst, inl, inr, arith, get_or-set_same, Some, None, Bool, true, false}
 use mathlib.Core.Option.{some, some-injective, some-ne-none}
-use mathlib.Core.Option as maybe
-use native.Mathlib.Decide.{ℕ_discrete}
 use lib.ListN.{get_elem?, length-map}
 use lib.Seq.{set-get_or}
 use prog.Atomic.{either}
@@ -13,14 +10,14 @@ use Rattle.row_words.specs.declared.shape.Shape.{Shape}
 use Rattle.board_rule.specs.declared.view.View.{View}
 use Rattle.board_rule.specs.declared.leaf.Place.{Place}
 use Rattle.map_model.specs.Calls.{Call, Reply, answer_of, map_after}
-use Rattle.map_model.specs.History.{Entry, after, IsLegal, own, IsNumbered}
+use Rattle.map_model.specs.History.{Entry, after, own}
 use Rattle.map_model.proofs.Histories.{after-push, ascending_history, legal-push, numbered-push, own-push_other, begins_itself}
 use Rattle.anchor_rules.specs.Anchors.{Anchors, Span, span, AreAnchors}
 use Rattle.leaf_spans.specs.Spread.{inside}
 use Rattle.leaf_spans.specs.Calls.{Lies}
 use Rattle.board_rule.specs.Notes.{note_of}
 use Rattle.board_rule.specs.Cells.{Map, Content, Spot, at_home, moving, Holding, Cell, free, taken, word_of, map_of, mine}
-use Rattle.board_rule.specs.Views.{VERSION, GIVEN, looked, held_at, holding, spotted, newly_held, locked, Deed, entry, given_back, unlocked}
+use Rattle.board_rule.specs.Views.{GIVEN, looked, held_at, holding, spotted, newly_held, locked, Deed, entry, given_back, unlocked}
 use Rattle.board_rule.specs.Rule.{Placed, leaf_word, place_of, expected, has_turn, SeatBelow, Dated, Numbers, Lasts, Kept}
 use Rattle.board_rule.specs.Steps.{Sat, FindsLeaf, Sees, HasNote, InSpan, Locks, Gives, Unlocks, Grabs, Puts}
 use Rattle.leaf_spans.proofs.Calls.{answer_part, after_part, other_part}

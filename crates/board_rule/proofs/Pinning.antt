@@ -12,7 +12,7 @@ use Rattle.atomic_table.specs.Table.{keeps, takes, gives, Allows, put_back, rest
 use Rattle.atomic_table.proofs.Lists.{set_here, set_else}
 use Rattle.row_words.specs.declared.shape.Shape.{Shape}
 use Rattle.map_model.specs.History.{own}
-use Rattle.anchor_rules.specs.Anchors.{Anchors, span}
+use Rattle.anchor_rules.specs.Anchors.{Anchors}
 use Rattle.meta_trie.specs.Stands.{StandsFor}
 use Rattle.board_rule.specs.declared.view.View.{View}
 use Rattle.meta_trie.specs.declared.lags.Lag.{Lag}
@@ -22,7 +22,7 @@ use Rattle.board_rule.specs.Pins.{Pin, LagSpot, lag_home, lag_moving, Spare, Lag
 use Rattle.board_rule.specs.Notes.{note_of}
 use Rattle.board_rule.specs.Views.{VERSION, GIVEN, PINS, looked, unchecked, checked, unpinned, cleared, written, lagged}
 use Rattle.board_rule.specs.Rule.{leaf_word, word_count, row_count, lag_place, Placed, LaneIs, table_at, rows_of, PinOk, PinIs, Behind, Clearing, LagIs, PinPlaced, Tables, Dated, has_turn, counts, bit, is_some, has_number, total, IsMet, Numbers, Counted, NotesOk, CurrentOk, Lasts, Kept}
-use Rattle.board_rule.specs.Steps.{Sat, note_or, current, anchors_now, Pinned, Checks, Unpinned, Clears, GrabsLag, PutsLag, kept_spare, pin_of, the_check, HasSpare, HasChecked, Reads}
+use Rattle.board_rule.specs.Steps.{Sat, note_or, current, anchors_now, Pinned, Checks, Unpinned, Clears, GrabsLag, PutsLag, kept_spare, pin_of, the_check, Reads}
 use Rattle.board_rule.proofs.Sums.{there, at_below, each_set, total-same, total-set, term_le, total_le, sum_to, sum_to_le, sum_to_one, counted_twice}
 use Rattle.board_rule.proofs.Tabled.{segment_out, segment_in, segment_at, lag_keep, pin_keep, pin_tables_keep, cleared_by, spare_else, spare_here}
 use Rattle.board_rule.proofs.Lasting.{Rises, rises_kept, lasts_rise, lasts_look, look_now, look_else}
@@ -435,14 +435,17 @@ reads k n id m word s o wide at _ =
       keeps,
       tt,
       unmoved k s o id word v at,
-      (refl, record {
-        knew = knew k s o id word v at;
-        pinned = λ i has near place. let ok = o.tables.pins id v at p (the_check p.checked) has.0 has.1 in
-            ap (λ (j : ℕ). get_or s.words j 0) place ∙ (sym (segment_at s.words (table_at k p.table) (row_count k) i near) ∙ ap (λ l. get_or l i 0) ok.kept);
-        spare = λ i has near place.
-            let cur = (o.current id v at (current v) (anchors_now v) has.1).0 in
-            let mine = mine_cleared k s o id v (kept_spare v) at has.0 in
-            let spare-t : (get_or s.words 0 0 + 1) % 2 ≡ (current v + 1) % 2 = omega arith in
-            ap (λ (j : ℕ). get_or s.words j 0) place ∙ (sym (segment_at s.words (table_at k ((current v + 1) % 2)) (row_count k) i near) ∙ ap (λ l. get_or l i 0) (ap (rows_of k s.words) (sym spare-t) ∙ mine.0.rows));
-      }),
+      (
+        refl,
+        record {
+          knew = knew k s o id word v at;
+          pinned = λ i has near place. let ok = o.tables.pins id v at p (the_check p.checked) has.0 has.1 in
+              ap (λ (j : ℕ). get_or s.words j 0) place ∙ (sym (segment_at s.words (table_at k p.table) (row_count k) i near) ∙ ap (λ l. get_or l i 0) ok.kept);
+          spare = λ i has near place.
+              let cur = (o.current id v at (current v) (anchors_now v) has.1).0 in
+              let mine = mine_cleared k s o id v (kept_spare v) at has.0 in
+              let spare-t : (get_or s.words 0 0 + 1) % 2 ≡ (current v + 1) % 2 = omega arith in
+              ap (λ (j : ℕ). get_or s.words j 0) place ∙ (sym (segment_at s.words (table_at k ((current v + 1) % 2)) (row_count k) i near) ∙ ap (λ l. get_or l i 0) (ap (rows_of k s.words) (sym spare-t) ∙ mine.0.rows));
+        },
+      ),
     )

@@ -1,5 +1,5 @@
 -- The publish of a change: a split or a merge.
-use Rattle.std.proofs.Common.{◌≡◌, ◌≢◌, ℕ, zero, suc, ◌+◌, ◌/◌, ◌^◌, ◌<◌, ◌≤◌, List, [], ◌∷◌, ◌++◌, length, get_or, set, take, drop, sym, refl, ap, ◌∙◌, subst, inr, arith, get_or-set_other, get_or-set_same, Option, Some, None, true, false, true≢false, is_some, ne_eqb}
+use Rattle.std.proofs.Common.{◌≡◌, ◌≢◌, ℕ, ◌+◌, ◌/◌, ◌<◌, ◌≤◌, List, [], ◌∷◌, ◌++◌, length, get_or, set, take, drop, sym, refl, ap, ◌∙◌, subst, inr, arith, get_or-set_other, get_or-set_same, Option, Some, None, true, false, true≢false, is_some, ne_eqb}
 use mathlib.Core.Option.{some, some-injective}
 use lib.ListN.{get_elem?}
 use Rattle.atomic_table.specs.Table.{keeps, Allows}
@@ -22,7 +22,7 @@ use Rattle.meta_trie.specs.declared.lags.Lag.TheVariants.{Same, Split, Merge}
 use Rattle.meta_trie.specs.Lags.{turned, CanTurn}
 use Rattle.board_rule.specs.Pins.{lag_home, Spare}
 use Rattle.board_rule.specs.Cells.{Map, Holding, Cell, taken, map_of, mine}
-use Rattle.board_rule.specs.Views.{VERSION, GIVEN, held_at, remapped, published, has}
+use Rattle.board_rule.specs.Views.{GIVEN, held_at, remapped, published, has}
 use Rattle.board_rule.specs.Notes.{Note, note_of}
 use Rattle.board_rule.specs.Rule.{leaf_word, SeatBelow, Counted, expected, has_turn, Dated, NotesOk, Numbers, Kept}
 use Rattle.board_rule.specs.Steps.{Sat, current, anchors_now, Publishable, changed, Publishes}

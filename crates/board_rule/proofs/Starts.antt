@@ -1,5 +1,5 @@
 -- The rule holds of a new board.
-use Rattle.std.proofs.Common.{◌≡◌, ℕ, zero, suc, ◌+◌, ◌*◌, ◌/◌, ◌^◌, ◌<◌, ◌≤◌, List, [], ◌∷◌, ◌++◌, map, length, length-append, replicate, get_or, take, drop, sym, refl, ap, ◌∙◌, subst, arith, ◌%◌, Bool, eqb, cond, eq-eqb, ne_eqb, lt-ltb, Option, Some, None}
+use Rattle.std.proofs.Common.{◌≡◌, ℕ, zero, suc, ◌+◌, ◌*◌, ◌/◌, ◌<◌, ◌≤◌, List, [], ◌∷◌, ◌++◌, map, length, length-append, replicate, get_or, take, drop, sym, refl, ap, ◌∙◌, subst, arith, ◌%◌, Bool, eqb, cond, eq-eqb, ne_eqb, lt-ltb, Option, Some, None}
 use Rattle.std.proofs.lemmas.List.{get_or-replicate, length-replicate, drop-drop, take_all}
 use mathlib.Core.Logic.{dite}
 use mathlib.Core.Option.{some, some-injective, some-ne-none}
@@ -21,7 +21,7 @@ use Rattle.meta_trie.specs.declared.lags.Lag.TheVariants.{Same}
 use Rattle.board_rule.specs.declared.leaf.Place.TheVariants.{Home, Lag as LagHome}
 use Rattle.board_rule.proofs.Sums.{at_below}
 use Rattle.board_rule.specs.Cells.{Content, Cell, free, map_of, word_of, mine}
-use Rattle.board_rule.specs.Pins.{Pin, Lagging, behind, pin_on}
+use Rattle.board_rule.specs.Pins.{Pin, behind, pin_on}
 use Rattle.board_rule.specs.Start.{AreFirst, view_at_start, places_at_start}
 use Rattle.board_rule.specs.Made.{front_words, words_at_start}
 use Rattle.board_rule.specs.Views.{VERSION, GIVEN, PINS, LEAVES}

@@ -1,5 +1,5 @@
 -- The steps on the turn and on the version.
-use Rattle.std.proofs.Common.{◌≡◌, ℕ, zero, suc, ◌+◌, ◌*◌, ◌/◌, ◌<◌, ◌≤◌, eqb, cond, List, [], ◌∷◌, ◌++◌, length, get_or, set, sym, refl, ap, ◌∙◌, subst, inr, ⊎_elim, arith, ◌^◌, length-set, get_or-set_other, get_or-set_same, Option, Some, None, Bool, true, false, true≢false, eq-eqb, ne_eqb, eqb-true, IsSome}
+use Rattle.std.proofs.Common.{◌≡◌, ℕ, ◌+◌, ◌*◌, ◌/◌, ◌<◌, ◌≤◌, eqb, cond, List, [], ◌∷◌, ◌++◌, length, get_or, set, sym, refl, ap, ◌∙◌, subst, inr, ⊎_elim, arith, ◌^◌, length-set, get_or-set_other, get_or-set_same, Option, Some, None, Bool, true, false, true≢false, eq-eqb, ne_eqb, eqb-true, IsSome}
 use mathlib.Core.Logic.{dite}
 use mathlib.Core.Option.{some, some-injective, some-ne-none}
 use mathlib.Core.Option as maybe

@@ -1,5 +1,5 @@
 -- What each step needs, and what it tells.
-use Rattle.std.specs.Prelude.{◌≡◌, ◌≢◌, ℕ, ◌+◌, ◌-◌, ◌%◌, ◌/◌, ◌^◌, Bool, false, ◌≤◌, cond, length, take, drop, ◌<◌, List, [], ◌∷◌, ◌++◌, true, slice_index, slice_set, Option, Some, None}
+use Rattle.std.specs.Prelude.{◌≡◌, ◌≢◌, ℕ, ◌+◌, ◌-◌, ◌%◌, ◌/◌, ◌^◌, false, ◌≤◌, length, take, drop, ◌<◌, List, [], ◌∷◌, ◌++◌, true, slice_index, Option, Some, None}
 use mathlib.Core.Option.{some}
 use mathlib.Core.List.{IsPrefix}
 use lib.ListN.{get_elem?}

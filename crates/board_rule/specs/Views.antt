@@ -1,5 +1,5 @@
 -- What steps do to a view.
-use Rattle.std.specs.Prelude.{◌≡◌, ℕ, ◌+◌, ◌*◌, List, [], ◌∷◌, ◌++◌, length, true, false, cond, ◌==◌, Option, Some, None, slice_set, slice_index_or, map, ◌-◌, nat_lt}
+use Rattle.std.specs.Prelude.{◌≡◌, ℕ, ◌+◌, List, [], ◌∷◌, ◌++◌, length, true, false, cond, ◌==◌, Option, Some, None, slice_set, slice_index_or, map, ◌-◌, nat_lt}
 use Rattle.map_model.specs.Calls.{Call, Reply}
 use Rattle.map_model.specs.History.{Entry, entry_of}
 use Rattle.anchor_rules.specs.Anchors.{Anchors}
