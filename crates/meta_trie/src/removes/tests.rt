@@ -7,7 +7,7 @@ ghost use Rattle.meta_trie.specs.Stands.{StandsFor, IsTable};
 use super::*;
 use crate::{add_anchor, look, start};
 use key_bytes::Key;
-use row_words::{Shape, VecRows};
+use row_words::{Rows, Shape, VecRows};
 use std::alloc::Global;
 use std::test::Fail;
 
