@@ -1,6 +1,6 @@
 //! Changes of a small table, and what the list of its anchors makes of them.
 
-ghost use Rattle.std.specs.Prelude.{◌≡◌, ◌<◌, ◌≤◌, ℕ, length, true, OnOk};
+ghost use Rattle.std.specs.Prelude.{◌≡◌, ◌<◌, ◌≤◌, ℕ, length, true, OnOk, OnSome};
 ghost use Rattle.row_words.specs.VecRows.{shape_of, words_of};
 ghost use Rattle.meta_trie.specs.Stands.{StandsFor};
 
@@ -13,7 +13,6 @@ use row_words::{AnchorWords, Shape, VecRows};
 use std::alloc::{AllocError, Global};
 use std::marker::Brand;
 use std::sync::ledger::{Blank, Ledger};
-use std::test::Fail;
 use steps::Steps;
 
 // So few leaves and items that both run out.
@@ -208,7 +207,7 @@ fn next_word(word: u64) -> u64 {
 }
 
 // A key of one to five letters, of three different ones.
-fn key_of(alloc: Global, word: u64) -> Result<Key, Fail> {
+fn key_of(alloc: Global, word: u64) -> Option<Key> {
     let mut rest = word / 1_048_576;
     let len = 1 + (rest % 5) as usize;
     let mut bytes = [b'a'; 5];
@@ -216,17 +215,17 @@ fn key_of(alloc: Global, word: u64) -> Result<Key, Fail> {
         rest /= 5;
         bytes[i] = b'a' + (rest % 3) as u8;
     }
-    Ok(Key::new(alloc, &bytes[..len])?)
+    Key::new(alloc, &bytes[..len]).ok()
 }
 
-fn some_keys(alloc: Global) -> Result<Vec<Key>, Fail> {
+fn some_keys(alloc: Global) -> Option<Vec<Key>> {
     let mut keys = Vec::new(alloc);
     let mut word = 7;
     for _ in 0..100 {
         word = next_word(word);
-        keys.push(key_of(alloc, word)?)?;
+        keys.push(key_of(alloc, word)?).ok()?;
     }
-    Ok(keys)
+    Some(keys)
 }
 
 // Changes the table and the list by this word, and tells what came of it beside what was to come.
@@ -235,45 +234,57 @@ fn change_both(
     anchors: &mut Anchors,
     alloc: Global,
     word: u64,
-) -> Result<(Change, Change), Fail>
+) -> Option<(Change, Change)>
     requires { StandsFor (shape_of rows.old) (words_of rows.old) anchors.old }
-    ensures { OnOk result (StandsFor (shape_of rows.new) (words_of rows.new) anchors.new) }
+    ensures { OnSome result (StandsFor (shape_of rows.new) (words_of rows.new) anchors.new) }
 {
     let many = anchors.len();
     if many > 1 && word / 1_099_511_627_776 % 8 < 3 {
         let place = 1 + (word / 1_048_576) as usize % (many - 1);
         let right = anchors.leaf(place);
         let left = anchors.leaf(place - 1);
-        return Ok((remove(rows, anchors, left, right), Change::Removed(right)));
+        return Some((remove(rows, anchors, left, right), Change::Removed(right)));
     }
     let key = key_of(alloc, word)?;
     let expected = expected(anchors, &key);
-    Ok((add(rows, anchors, key)?, expected))
+    match add(rows, anchors, key) {
+        Ok(made) => Some((made, expected)),
+        Err(_) => None,
+    }
 }
 
-#[test]
-fn a_table_agrees_with_its_list(rt: HostRuntime) -> Result<(), Fail> {
-    let alloc = rt.alloc();
-    let keys = some_keys(alloc)?;
-    let mut anchors = Anchors::first(alloc, 0)?;
-    let mut rows = VecRows::new(alloc, &SMALL)?;
+// Whether the table agrees with its list through 500 changes, among which all kinds are.
+fn agrees_with_its_list(alloc: Global) -> bool {
+    let Some(keys) = some_keys(alloc) else {
+        return false;
+    };
+    let Ok(mut anchors) = Anchors::first(alloc, 0) else {
+        return false;
+    };
+    let Ok(mut rows) = VecRows::new(alloc, &SMALL) else {
+        return false;
+    };
     start(&mut rows);
     let mut word = 1;
     let mut any_went = false;
     let mut leaves_ran_out = false;
     let mut items_ran_out = false;
-    for turn in 0..500 {
+    for _ in 0..500 {
         word = next_word(word);
-        let (made, expected) = change_both(&mut rows, &mut anchors, alloc, word)?;
-        assert_eq!(rt; made, expected, "in turn {turn}");
-        assert!(rt;
-            are_same_places(&mut rows, &anchors, &keys),
-            "after turn {turn}"
-        );
+        let Some((made, expected)) = change_both(&mut rows, &mut anchors, alloc, word) else {
+            return false;
+        };
+        if made != expected || !are_same_places(&mut rows, &anchors, &keys) {
+            return false;
+        }
         any_went |= matches!(made, Change::Removed(_));
         leaves_ran_out |= matches!(made, Change::Refused(TableFull::Leaves { .. }));
         items_ran_out |= matches!(made, Change::Refused(TableFull::Items { .. }));
     }
-    assert!(rt; any_went && leaves_ran_out && items_ran_out);
-    Ok(())
+    any_went && leaves_ran_out && items_ran_out
+}
+
+#[test]
+fn a_table_agrees_with_its_list(rt: HostRuntime) {
+    assert!(rt; agrees_with_its_list(rt.alloc()));
 }

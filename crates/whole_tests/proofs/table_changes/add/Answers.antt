@@ -1,6 +1,6 @@
 use Rattle.std.proofs.Common.{refl}
-use Rattle.trie_tests.proofs.Tables.{same_table}
-use Rattle.trie_tests.proofs.tests.add.Goals as goal
+use Rattle.whole_tests.proofs.Tables.{same_table}
+use Rattle.whole_tests.proofs.table_changes.add.Goals as goal
 
 pub returns-in_ok-with_split-in-Ok-add_anchor : goal.returns-in_ok-with_split-in-Ok-add_anchor
 returns-in_ok-with_split-in-Ok-add_anchor c =

@@ -1,7 +1,7 @@
 use Rattle.std.proofs.Common.{refl, sym, ◌∙◌}
 use Rattle.meta_trie.proofs.Merging.{adjacent_can_merge}
-use Rattle.trie_tests.proofs.Tables.{same_table}
-use Rattle.trie_tests.proofs.tests.remove.Goals as goal
+use Rattle.whole_tests.proofs.Tables.{same_table}
+use Rattle.whole_tests.proofs.table_changes.remove.Goals as goal
 
 pub remove_anchor-requires : goal.remove_anchor-requires
 remove_anchor-requires c = adjacent_can_merge _ _ c.args.anchors.now c.args.left c.args.right c.requires (sym c.adjacent.ensures ∙ c.if-not-adjacent.false)
