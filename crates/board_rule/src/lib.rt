@@ -3,6 +3,7 @@
 #![tactic(auto)]
 
 mod board;
+mod crossings;
 mod lane_steps;
 mod leaf;
 mod leaf_steps;
@@ -11,6 +12,8 @@ mod opening;
 mod pin_steps;
 mod rule;
 mod spare_steps;
+#[cfg(test)]
+mod tests;
 mod turn_steps;
 mod view;
 
