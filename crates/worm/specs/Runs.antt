@@ -1,8 +1,9 @@
 -- How commands end.
-use Rattle.std.specs.Prelude.{◌≡◌, ◌⊎◌, ◌<◌, ◌≤◌, ◌+◌, ◌*◌, ◌/◌, ◌^◌, ℕ, true, List, [], length, codes, Option, Some, None}
+use Rattle.std.specs.Prelude.{◌≡◌, ◌⊎◌, ◌<◌, ◌≤◌, ◌+◌, ◌*◌, ◌/◌, ℕ, true, List, [], length, codes, Option, Some, None}
 use Rattle.counts.specs.Counts.{Rose}
 use Rattle.history_sizes.specs.Sizes.{new_keys, longest_new}
 use Rattle.line_protocol.specs.Served.{served}
+use Rattle.line_reader.specs.declared.limits.TheConstants.{MOST_INPUT}
 use Rattle.map_model.specs.History.{Entry, IsLegal}
 use Rattle.map_model.specs.declared.refusal.Refusal.{Refusal}
 use Rattle.outside.specs.Reading.{Told}
@@ -29,7 +30,7 @@ status_of (Spent taken) = 7
 
 -- the most bytes of a run
 abbrev pub most_bytes : ℕ
-most_bytes = 2 ^ 40
+most_bytes = MOST_INPUT
 
 -- the empty history
 abbrev pub IsNew : List Entry → Type 0

@@ -5,6 +5,7 @@ ghost use Rattle.row_words.specs.Shape.{IsShape};
 ghost use Rattle.worm.specs.Runs.{IsStatus, Ran, status_of};
 
 use crate::top::Outcome;
+use line_reader::MOST_INPUT;
 use outside::{Sink, Source};
 use row_words::Shape;
 use session::SessionEnd;
@@ -12,9 +13,6 @@ use sole_sessions::serve_sole;
 use solo_index::Solo;
 use std::alloc::Global;
 use std::mem;
-
-/// The most bytes of an input, which are 2^40.
-const MOST_BYTES: u64 = 1_099_511_627_776;
 
 /// Serves the lines of the source as one session, which begins with an empty index of this shape. The
 /// index keeps its memory until the process ends.
@@ -35,7 +33,7 @@ pub fn run_script<S: Source, K: Sink>(
 {
     match Solo::make(alloc, shape) {
         Ok(mut index) => {
-            let end = serve_sole(alloc, &mut index, source, sink, MOST_BYTES);
+            let end = serve_sole(alloc, &mut index, source, sink, MOST_INPUT);
             // The process ends soon, and its memory with it: giving back each leaf before takes longer.
             mem::forget(index);
             Outcome {

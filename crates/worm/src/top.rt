@@ -2,7 +2,7 @@
 ghost use Rattle.std.specs.Prelude.{◌≡◌, ◌↔◌, None, map, string_bytes};
 ghost use Rattle.command_line.specs.Commands.{command};
 ghost use Rattle.counts.specs.Counts.{Rose};
-ghost use Rattle.worm.specs.Commands.{Did};
+ghost use Rattle.worm.specs.Commands.{Did, ReadsNothing};
 ghost use Rattle.worm.specs.Runs.{IsStatus};
 
 use crate::fills::run_fill;
@@ -20,7 +20,7 @@ use std::alloc::Global;
 /// | 3 | couldn't read its input |
 /// | 4 | couldn't write its output |
 /// | 5 | had no memory |
-/// | 7 | took 2^40 bytes, which are the most, without another end |
+/// | 7 | took the most bytes of an input without another end |
 #[derive(Clone, Copy, Debug, PartialEq, Eq)]
 pub struct Outcome {
     pub status: u8,
@@ -35,6 +35,7 @@ pub fn worm<S: Source, K: Sink>(
 ) -> Outcome
     ensures words { (result.status ≡ 2) ↔ (command (map string_bytes words.now.items) ≡ None) }
     ensures untouched { result.status ≡ 2 → (source.new ≡ source.old) × (sink.new ≡ sink.old) }
+    ensures unread { ReadsNothing (command (map string_bytes words.now.items)) → source.new ≡ source.old }
     ensures status { IsStatus result.status }
     ensures did { Did (command (map string_bytes words.now.items)) result.status
         (S.told source.old) (S.told source.new) (K.written sink.old) (K.written sink.new)
