@@ -35,9 +35,16 @@ complete_by ends.NoMemory status bytes ended output is no_read no_write taken fe
 complete_by (ends.Spent count) status bytes ended output is no_read no_write taken few same = absurd (omega (arith, taken.0, few))
 
 -- A store that stands for the empty history answered a legal history.
-pub replies_new : (end : SessionEnd) (front all : List (List ℕ)) (w v : Option (List ℕ)) (limit : Option ℕ) (lane : ℕ) (sole : Bool) (fits : List Entry → Type 0) (i j : ℕ) (m n : Option Refusal) (a b : List Entry → Type 0)
+pub replies_new : (end : SessionEnd) (all : List (List ℕ)) (w v : Option (List ℕ)) (limit : Option ℕ) (lane : ℕ) (sole : Bool) (fits : List Entry → Type 0) (i j : ℕ) (m n : Option Refusal) (a b : List Entry → Type 0)
+    → a [] → Follows a b (Replies end all w v limit lane sole fits i j m n) → Follows IsNew IsLegal (Replies end all w v limit lane sole fits i j m n)
+replies_new end all w v limit lane sole fits i j m n a b new replies =
+    let found = replies [] new in
+    λ old is_new. (found.0, found.2.grows.legal, subst (λ h. Replies end all w v limit lane sole fits i j m n h found.0) (sym is_new) found.2)
+
+-- And so it did where the replies came in turn.
+turns_new : (end : SessionEnd) (front all : List (List ℕ)) (w v : Option (List ℕ)) (limit : Option ℕ) (lane : ℕ) (sole : Bool) (fits : List Entry → Type 0) (i j : ℕ) (m n : Option Refusal) (a b : List Entry → Type 0)
     → a [] → Follows a b (InTurn end front all w v limit lane sole fits i j m n) → Follows IsNew IsLegal (InTurn end front all w v limit lane sole fits i j m n)
-replies_new end front all w v limit lane sole fits i j m n a b new replies =
+turns_new end front all w v limit lane sole fits i j m n a b new replies =
     let found = replies [] new in
     λ old is_new. (found.0, found.2.replies.grows.legal, subst (λ h. InTurn end front all w v limit lane sole fits i j m n h found.0) (sym is_new) found.2)
 
@@ -75,7 +82,7 @@ ran_new k end status t u w v j n a b reads reads_now writes writes_now shape of_
         parts = s.parts;
         one_piece = s.one_piece;
         stays = s.stays;
-        replies = replies_new end (served s.front false) (served s.bytes s.ended) w v (Some 1) 0 true (Fits k) 0 j None n a b new s.replies;
+        replies = turns_new end (served s.front false) (served s.bytes s.ended) w v (Some 1) 0 true (Fits k) 0 j None n a b new s.replies;
       };
       plain = sole.plain;
       complete = λ no_read no_write few within.
