@@ -1,0 +1,42 @@
+-- Lanes that are forked one after another.
+use Rattle.std.proofs.Common.{◌≡◌, ℕ, ◌+◌, ◌<◌, ◌≤◌, List, [], ◌∷◌, ◌++◌, Option, Vec, Err, arith}
+use Rattle.std.specs.declared.alloc.Global.{Global}
+use Rattle.map_model.specs.History.{Entry}
+use Rattle.map_model.specs.Lanes.{ForksByRoom, TellsLanes}
+use Rattle.map_model.specs.declared.refusal.ForkFault.{ForkFault}
+use Rattle.map_model.specs.declared.refusal.ForkFault.TheVariants as faults
+use Rattle.lane_runner.specs.Runs.{TellsRoom}
+use Rattle.lane_runner.specs.Tasks.{Task, IsReady, AreReady, AreOf, HaveSeen}
+
+-- one lane more
+pub ready_push : (origin most : ℕ) (limit : Option ℕ) (seen : List Entry) (from upto next : ℕ) (scripts : List (Vec ℕ Global)) (slots : List Task) (script : Vec ℕ Global) (x : Task)
+    → AreReady origin most limit seen from upto scripts slots → IsReady origin most limit seen script.items x → upto ≤ x.lane → x.lane < next → AreReady origin most limit seen from next (scripts ++ script ∷ []) (slots ++ x ∷ [])
+ready_push origin most limit seen from upto next [] [] script x all is low high = (omega (arith, low, all), is, omega (arith, high))
+ready_push origin most limit seen from upto next [] (s ∷ slots) script x all is low high = absurd all
+ready_push origin most limit seen from upto next (t ∷ scripts) [] script x all is low high = absurd all
+ready_push origin most limit seen from upto next (t ∷ scripts) (s ∷ slots) script x all is low high = (all.0, all.1, ready_push origin most limit seen (s.lane + 1) upto next scripts slots script x all.2 is low high)
+
+-- lanes that are ready are of one index
+pub ready_of : (origin most : ℕ) (limit : Option ℕ) (seen : List Entry) (from upto : ℕ) (scripts : List (Vec ℕ Global)) (slots : List Task) → AreReady origin most limit seen from upto scripts slots → AreOf origin slots
+ready_of origin most limit seen from upto [] [] all = tt
+ready_of origin most limit seen from upto [] (s ∷ slots) all = absurd all
+ready_of origin most limit seen from upto (t ∷ scripts) [] all = absurd all
+ready_of origin most limit seen from upto (t ∷ scripts) (s ∷ slots) all = (all.1.same_origin, ready_of origin most limit seen (s.lane + 1) upto scripts slots all.2)
+
+-- and have seen the same
+pub ready_seen : (origin most : ℕ) (limit : Option ℕ) (seen : List Entry) (from upto : ℕ) (scripts : List (Vec ℕ Global)) (slots : List Task) → AreReady origin most limit seen from upto scripts slots → HaveSeen seen slots
+ready_seen origin most limit seen from upto [] [] all = tt
+ready_seen origin most limit seen from upto [] (s ∷ slots) all = absurd all
+ready_seen origin most limit seen from upto (t ∷ scripts) [] all = absurd all
+ready_seen origin most limit seen from upto (t ∷ scripts) (s ∷ slots) all = (all.1.same_seen, ready_seen origin most limit seen (s.lane + 1) upto scripts slots all.2)
+
+-- a fork was refused
+pub refused_forks : (T S : Type 0) (before now room forks most : ℕ) (fault : ForkFault)
+    → ForksByRoom {T = T} before now (Err fault) → (before ≡ 0 → TellsLanes {T = T} most (Err fault)) → (before ≡ 0 → room < forks) → TellsRoom {T = S} room forks most (Err fault)
+refused_forks T S before now room forks most (faults.Lanes given cap) by told less = (less by.0, told by.0)
+refused_forks T S before now room forks most faults.NoMemory by told less = tt
+
+-- and of one script fewer than there are
+pub refused_run : (T S : Type 0) (room forks more most : ℕ) (fault : ForkFault) → forks ≡ more → TellsRoom {T = T} room forks most (Err fault) → TellsRoom {T = S} room more most (Err fault)
+refused_run T S room forks more most (faults.Lanes given cap) same told = (omega (arith, same, told.0), told.1)
+refused_run T S room forks more most faults.NoMemory same told = tt

@@ -1,0 +1,59 @@
+-- All lanes together.
+use Rattle.std.proofs.Common.{◌≡◌, ℕ, suc, ◌+◌, ◌<◌, List, [], ◌∷◌, ◌++◌, length, reverse, Bool, false, IsTrue, sym, ap, ◌∙◌, refl, subst, arith, Option, Vec}
+use Rattle.std.specs.Prelude.{slice_index_or}
+use Rattle.std.specs.List.{remove}
+use Rattle.std.proofs.lemmas.List.{reverse-append}
+use mathlib.Core.Bool.{false≢true}
+use Rattle.std.specs.declared.alloc.Global.{Global}
+use Rattle.map_model.specs.History.{Entry, own}
+use Rattle.lane_runner.specs.declared.slot.LaneEnd.{LaneEnd}
+use Rattle.lane_runner.specs.Runs.{AllEnd, FirstServes, LanesServe}
+use Rattle.lane_runner.specs.Tasks.{Task, AreReady, AreDone, AllRan, AreOf}
+use Rattle.lane_runner.proofs.Running.{done, ran_of}
+use Rattle.lane_runner.proofs.Ending.{first_moves}
+
+-- what was taken from the front, and what is left
+pub taken_first : (xs tail : List (Vec ℕ Global)) (head : Vec ℕ Global) → 0 < length xs → head ≡ slice_index_or xs 0 head → tail ≡ remove xs 0 → xs ≡ head ∷ tail
+taken_first [] tail head some is rest = absurd (omega (arith, some))
+taken_first (x ∷ xs) tail head some is rest = let h : head ≡ x = is in let t : tail ≡ xs = rest in cc (h, t)
+
+-- Lanes that were ready, and ran.
+module _ (lane origin most : ℕ) (limit : Option ℕ) (seen : List Entry) (upto : ℕ) (tail : List (Vec ℕ Global)) (slots slots' : List Task) (ready : AreReady origin most limit seen (lane + 1) upto tail slots) (ran : AllRan slots slots') where
+  pub all_done : AreDone most limit seen (lane + 1) upto tail slots'
+  all_done = done origin most limit seen (lane + 1) upto tail slots slots' ready ran
+
+  pub all_of : AreOf origin slots'
+  all_of = ran_of origin most limit seen (lane + 1) upto tail slots slots' ready ran
+
+  -- The first lane served its script, and the others were ended into it.
+  pub all_ran : (scripts : List (Vec ℕ Global)) (head : Vec ℕ Global) (end : LaneEnd) (ends : List LaneEnd) (sole sole_now : Bool) (count middle next : ℕ) (mid later : List Entry) → scripts ≡ head ∷ tail → sole_now ≡ sole
+      → (0 < length tail → sole ≡ false) → FirstServes limit lane sole head.items end count middle seen mid → AllEnd limit (lane + 1) most tail (reverse ends) middle next seen later → own lane later ≡ own lane mid → (length tail ≡ 0 → later ≡ mid)
+      → LanesServe limit lane sole_now most scripts (reverse (ends ++ end ∷ [])) count next seen later
+  all_ran scripts head end ends sole sole_now count middle next mid later is_scripts is_sole among first others mine none =
+      let alone : IsTrue sole → later ≡ mid = λ is. none (some is tail refl) in
+      let served = first_moves limit lane sole head.items end.ending end.output first.0 seen mid later mine alone first.1 in
+      let all : LanesServe limit lane sole most (head ∷ tail) (end ∷ reverse ends) count next seen later = (first.0, others.0, omega (arith, first.2, others.2), served, others.1) in
+      subst (λ b. LanesServe limit lane b most scripts (reverse (ends ++ end ∷ [])) count next seen later) (sym is_sole)
+      (subst (λ w. LanesServe limit lane sole most scripts w count next seen later) (sym (reverse-append ends (end ∷ [])))
+      (subst (λ w. LanesServe limit lane sole most w (end ∷ reverse ends) count next seen later) (sym is_scripts) all))
+    where
+      -- where it is the only lane, no lane was forked
+      some : IsTrue sole → (t : List (Vec ℕ Global)) → t ≡ tail → length tail ≡ 0
+      some is [] e = ap length (sym e)
+      some is (s ∷ t) e = absurd (false≢true (sym (among (omega (arith, ap length e))) ∙ is))
+
+ready_length : (origin most : ℕ) (limit : Option ℕ) (seen : List Entry) (from upto : ℕ) (scripts : List (Vec ℕ Global)) (slots : List Task) → AreReady origin most limit seen from upto scripts slots → length slots ≡ length scripts
+ready_length origin most limit seen from upto [] [] all = refl
+ready_length origin most limit seen from upto [] (s ∷ slots) all = absurd all
+ready_length origin most limit seen from upto (t ∷ scripts) [] all = absurd all
+ready_length origin most limit seen from upto (t ∷ scripts) (s ∷ slots) all = ap suc (ready_length origin most limit seen (s.lane + 1) upto scripts slots all.2)
+
+ran_length : (xs ys : List Task) → AllRan xs ys → length ys ≡ length xs
+ran_length [] [] ran = refl
+ran_length [] (y ∷ ys) ran = absurd ran
+ran_length (x ∷ xs) [] ran = absurd ran
+ran_length (x ∷ xs) (y ∷ ys) ran = ap suc (ran_length xs ys ran.1)
+
+-- there are as many lanes as scripts
+pub same_length : (origin most : ℕ) (limit : Option ℕ) (seen : List Entry) (from upto : ℕ) (scripts : List (Vec ℕ Global)) (slots slots' : List Task) → AreReady origin most limit seen from upto scripts slots → AllRan slots slots' → length slots' ≡ length scripts
+same_length origin most limit seen from upto scripts slots slots' ready ran = ran_length slots slots' ran ∙ ready_length origin most limit seen from upto scripts slots ready

@@ -1,0 +1,82 @@
+-- What lanes served of their scripts.
+use Rattle.std.specs.Prelude.{◌≡◌, ◌≤◌, ◌<◌, ◌+◌, ℕ, List, [], ◌∷◌, ◌++◌, Bool, true, false, IsTrue, Option, Vec, Result, Ok, Err}
+use Rattle.std.specs.declared.alloc.Global.{Global}
+use Rattle.std.specs.List.{sum_by}
+use mathlib.Core.List.{IsPrefix}
+use Rattle.counts.specs.Counts.{RoseBy}
+use Rattle.line_protocol.specs.Served.{served}
+use Rattle.map_model.specs.History.{Entry, own}
+use Rattle.map_model.specs.declared.refusal.ForkFault.{ForkFault}
+use Rattle.map_model.specs.declared.refusal.ForkFault.TheVariants as faults
+use Rattle.session.specs.Transcripts.{IsTranscript, owed}
+use Rattle.session.specs.declared.session.SessionEnd.{SessionEnd}
+use Rattle.session.specs.declared.session.SessionEnd.TheVariants.{Quit, EndOfInput, ReadFault, WriteFault, NoMemory, Spent}
+use Rattle.lane_runner.specs.declared.slot.LaneEnd.{LaneEnd}
+
+-- The lines that were served of a script, by the end of its session: all of them; where memory was wanting, some first lines of some first bytes. It doesn't end otherwise.
+abbrev pub LinesBy : SessionEnd → List ℕ → List (List ℕ) → Type 0
+LinesBy Quit script lines = lines ≡ served script true
+LinesBy EndOfInput script lines = lines ≡ served script true
+LinesBy ReadFault script lines = ⊥
+LinesBy WriteFault script lines = ⊥
+LinesBy NoMemory script lines = (bytes : List ℕ) × (ended : Bool) × IsPrefix bytes script × IsPrefix lines (served bytes ended)
+LinesBy (Spent taken) script lines = ⊥
+
+-- The output by the end of the session: the whole text; where memory was wanting, some first bytes of it.
+abbrev pub OutputBy : SessionEnd → List ℕ → List ℕ → Type 0
+OutputBy Quit text output = output ≡ text
+OutputBy EndOfInput text output = output ≡ text
+OutputBy ReadFault text output = ⊥
+OutputBy WriteFault text output = ⊥
+OutputBy NoMemory text output = IsPrefix output text
+OutputBy (Spent taken) text output = ⊥
+
+-- Of room nothing is said: no history is known to fit.
+abbrev pub NothingFits : List Entry → Type 0
+NothingFits history = ⊥
+
+-- A lane served its script: the entries that a history gained of the lane are those of the lines served, and their transcript tells the output. So many refusals stand behind it.
+pub record ServesScript (limit : Option ℕ) (lane : ℕ) (sole : Bool) (script : List ℕ) (end : SessionEnd) (output : List ℕ) (owes : ℕ) (before now : List Entry) : Type 0 where
+  pub lines : List (List ℕ)
+  pub entries : List Entry
+  pub text : List ℕ
+  pub of_script : LinesBy end script lines
+  pub said : OutputBy end text output
+  pub mine : own lane now ≡ own lane before ++ entries
+  pub alone : IsTrue sole → now ≡ before ++ entries
+  pub transcript : IsTranscript limit lane sole NothingFits before lines entries text
+  pub owed : owes ≡ sum_by (owed limit) transcript.pieces
+
+-- Each script was served by a lane of its own, and the lanes' numbers ascend, from a first one to below an end. So many refusals stand behind all outputs.
+abbrev pub AllServe : Option ℕ → ℕ → ℕ → List (Vec ℕ Global) → List LaneEnd → ℕ → List Entry → List Entry → Type 0
+AllServe limit from most [] [] owes before now = owes ≡ 0
+AllServe limit from most [] (end ∷ ends) owes before now = ⊥
+AllServe limit from most (script ∷ scripts) [] owes before now = ⊥
+AllServe limit from most (script ∷ scripts) (end ∷ ends) owes before now =
+    (lane : ℕ) × (mine : ℕ) × (others : ℕ) × (from ≤ lane) × (lane < most) × (owes ≡ mine + others)
+    × ServesScript limit lane false script.items end.ending end.output mine before now
+    × AllServe limit (lane + 1) most scripts ends others before now
+
+-- This lane served the first script, and lanes above it served the others. The count of refusals rose by as many as stand behind all outputs.
+abbrev pub LanesServe : Option ℕ → ℕ → Bool → ℕ → List (Vec ℕ Global) → List LaneEnd → ℕ → ℕ → List Entry → List Entry → Type 0
+LanesServe limit lane sole most [] ends count next before now = ⊥
+LanesServe limit lane sole most (script ∷ scripts) [] count next before now = ⊥
+LanesServe limit lane sole most (script ∷ scripts) (end ∷ ends) count next before now =
+    (mine : ℕ) × (others : ℕ) × RoseBy (mine + others) count next
+    × ServesScript limit lane sole script.items end.ending end.output mine before now
+    × AllServe limit (lane + 1) most scripts ends others before now
+
+-- Want of lanes is told exactly where so many forks are more than there is room for, and with it how many lanes there may be.
+abbrev pub TellsRoom : {T : Type 0} → ℕ → ℕ → ℕ → Result T ForkFault → Type 0
+TellsRoom room forks most (Ok x) = forks ≤ room
+TellsRoom room forks most (Err (faults.Lanes given cap)) = (room < forks) × (cap ≡ most)
+TellsRoom room forks most (Err faults.NoMemory) = Unit {0}
+
+-- Each script was served, and the count of refusals rose by as many as stand behind all outputs.
+abbrev pub AllEnd : Option ℕ → ℕ → ℕ → List (Vec ℕ Global) → List LaneEnd → ℕ → ℕ → List Entry → List Entry → Type 0
+AllEnd limit from most scripts ends count next before now = (owes : ℕ) × AllServe limit from most scripts ends owes before now × RoseBy owes count next
+
+-- A script was served, the count rose by as many refusals as stand behind its output, and the history went on.
+abbrev pub FirstServes : Option ℕ → ℕ → Bool → List ℕ → LaneEnd → ℕ → ℕ → List Entry → List Entry → Type 0
+FirstServes limit lane sole script end count next before now =
+    (owes : ℕ) × ServesScript limit lane sole script end.ending end.output owes before now × RoseBy owes count next × IsPrefix before now
