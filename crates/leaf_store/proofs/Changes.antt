@@ -6,6 +6,7 @@ use Rattle.std.proofs.Math.ListN.{length-set}
 use Rattle.key_bytes.specs.Order.{is_below, is_same}
 use Rattle.key_bytes.specs.Fnv.{prefix_hash}
 use Rattle.leaf_store.specs.Tag.{first_bits, tag_of}
+use Rattle.map_model.specs.Halves.{keys_of}
 use Rattle.map_model.specs.Maps.{Pairs, IsMap, find, with, without, sorted}
 use Rattle.key_bytes.proofs.Orders.{same_is}
 use Rattle.map_model.proofs.Finds.{find_sorted, find_without, same_map, ascending_keep}
@@ -46,6 +47,12 @@ module _ {V : Type 0} where
   ascending_set [] i y d lt e up = absurd (omega arith)
   ascending_set (x ∷ rows) zero y d lt e up = (subst (λ k. AllByRecursion (λ (p : List ℕ × V). is_below k p.0 ≡ true) rows) e up.0, up.1)
   ascending_set (x ∷ rows) (suc i) y d lt e up = (all_set x.0 rows i y d (omega arith) e up.0, ascending_set rows i y d (omega arith) e up.1)
+
+  -- keys stay where a value is written over
+  pub keys_set : (rows : Pairs V) (i : ℕ) (y d : List ℕ × V) → i < length rows → (get_or rows i d).0 ≡ y.0 → keys_of (set rows i y) ≡ keys_of rows
+  keys_set [] i y d lt e = absurd (omega arith)
+  keys_set (x ∷ rows) zero y d lt e = ap (λ (k : List ℕ). k ∷ keys_of rows) (sym e)
+  keys_set (x ∷ rows) (suc i) y d lt e = ap (λ (l : List (List ℕ)). x.0 ∷ l) (keys_set rows i y d (omega arith) e)
 
   pub seen_find : (m n : LeafMap V) → m ≡ n → (key : List ℕ) (o : Option V) → find m.map key ≡ o → find n.map key ≡ o
   seen_find m n e key o f = subst (λ (s : LeafMap V). find s.map key ≡ o) e f
@@ -100,15 +107,16 @@ module _ {V : Type 0} (salt : ℕ) (rows : Pairs V) (pairs : List (ℕ × ℕ)) 
     pub written_map : (v : V) → sorted (set rows i (x.0, v)) ≡ with (sorted rows) key v
     written_map v = sorted_set rows i x leaf.keys lt read v ∙ ap (λ k. with (sorted rows) k v) has_key
 
-    abbrev viewed : ℕ → Pairs V → ℕ → LeafMap V
-    viewed spare map room = record { map = map; spare = min room spare; salt = salt; is_ordered = ordered }
+    abbrev viewed : ℕ → Pairs V → List (List ℕ) → ℕ → LeafMap V
+    viewed spare map keys room = record { map = map; keys = keys; spare = min room spare; salt = salt; is_ordered = ordered }
 
     -- what the leaf is seen as, with a value written over
-    pub written_view : (n : LeafMap V) (capacity spare : ℕ) → ◌≡◌ {A = LeafMap V} (record { map = sorted rows; spare = min (capacity - length rows) spare; salt = salt; is_ordered = ordered }) n
-        → (v : V) → ◌≡◌ {A = LeafMap V} (record { map = sorted (set rows i (x.0, v)); spare = min (capacity - length (set rows i (x.0, v))) spare; salt = salt; is_ordered = ordered }) (with_value n key v)
+    pub written_view : (n : LeafMap V) (capacity spare : ℕ) → ◌≡◌ {A = LeafMap V} (record { map = sorted rows; keys = keys_of rows; spare = min (capacity - length rows) spare; salt = salt; is_ordered = ordered }) n
+        → (v : V) → ◌≡◌ {A = LeafMap V} (record { map = sorted (set rows i (x.0, v)); keys = keys_of (set rows i (x.0, v)); spare = min (capacity - length (set rows i (x.0, v))) spare; salt = salt; is_ordered = ordered }) (with_value n key v)
     written_view n capacity spare seen v =
-        ap (λ (p : Pairs V). viewed spare p (capacity - length (set rows i (x.0, v)))) (written_map v)
-        ∙ (ap (λ k. viewed spare (with (sorted rows) key v) (capacity - k)) (length-set rows i (x.0, v)) ∙ ap (λ (s : LeafMap V). with_value s key v) seen)
+        ap (λ (p : Pairs V). viewed spare p (keys_of (set rows i (x.0, v))) (capacity - length (set rows i (x.0, v)))) (written_map v)
+        ∙ (ap (λ (keys : List (List ℕ)). viewed spare (with (sorted rows) key v) keys (capacity - length (set rows i (x.0, v)))) (keys_set rows i (x.0, v) x lt (sym (ap (λ (p : List ℕ × V). p.0) read)))
+        ∙ (ap (λ k. viewed spare (with (sorted rows) key v) (keys_of rows) (capacity - k)) (length-set rows i (x.0, v)) ∙ ap (λ (s : LeafMap V). with_value s key v) seen))
 
     -- the last row goes to the place of the one that is taken out
     last : List ℕ × V

@@ -12,3 +12,4 @@ pub mod Parted
 pub mod Halves
 pub mod Joined
 pub mod Listed
+pub mod Partings

@@ -4,7 +4,9 @@ use Rattle.std.specs.List.{Contains}
 use Rattle.std.specs.List.Sorted.{IsPermutation}
 use Rattle.key_bytes.specs.Order.{is_same}
 use Rattle.leaf_store.specs.Tag.{tag_of}
+use Rattle.map_model.specs.Halves.{key_at}
 use Rattle.map_model.specs.Maps.{Pairs, find}
+use Rattle.map_model.proofs.Halves.{key_at-pair}
 use Rattle.key_bytes.proofs.Orders.{same_itself}
 use Rattle.leaf_store.specs.Rows.{bit, is_pair, times, places, AreTags}
 use Rattle.leaf_store.proofs.Unsorted.{total_permutation, total_append, found_contains}
@@ -25,6 +27,18 @@ module _ {V : Type 0} (salt : ℕ) (rows : Pairs V) (pairs : List (ℕ × ℕ)) 
       let a = h.1 in
       let b = h.2 in
       omega arith
+
+  -- and the tag is that of the row's key
+  pub key_tagged : (tag place : ℕ) → Contains pairs (tag, place) → tag ≡ tag_of salt (key_at rows place)
+  key_tagged tag place has =
+      let q : ℕ × ℕ = (tag, place) in
+      let n = contains_times q pairs has.0 has.1 has.2 in
+      let e = tags q in
+      let h = times_places salt q 0 rows (omega arith) in
+      let lt : h.0 < length rows = h.1 in
+      let same : h.0 ≡ place = (let p = h.2 in omega arith) in
+      let d = some_row rows (omega arith) in
+      h.3 d ∙ (ap (tag_of salt) (sym (key_at-pair rows h.0 d lt)) ∙ ap (λ k. tag_of salt (key_at rows k)) same)
 
   -- and each row's tag is there
   pub row_tag : (place : ℕ) (d : List ℕ × V) → place < length rows → Contains pairs (tag_of salt (get_or rows place d).0, place)

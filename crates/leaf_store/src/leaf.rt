@@ -1,8 +1,9 @@
 //! A leaf.
 ghost use Rattle.std.specs.Prelude.{◌≡◌, ℕ, ◌+◌, ◌-◌, ◌/◌, ◌<◌, ◌≤◌, ◌⊎◌, List, [], ◌++◌, length, take, drop, map, slice_index_or, MatchOption, IsSome, IsNone, IsOk, IsTrue, IfOk, IfErr, OnOk, OnErr, None, Some};
-ghost use Rattle.std.specs.List.{range_with_len};
+ghost use Rattle.std.specs.List.{Contains, range_with_len};
 ghost use Rattle.std.specs.List.Sorted.{IsPermutation};
 ghost use Rattle.key_bytes.specs.declared.bound.Bound.TheVariants.{Low};
+ghost use Rattle.map_model.specs.Halves.{keys_of, lower_half, parting, upper_half};
 ghost use Rattle.map_model.specs.Maps.{IsMap, find, with, without, between, sorted};
 ghost use Rattle.std.specs.Borrow.{sem};
 ghost use Rattle.key_bytes.specs.Fnv.{prefix_hash};
@@ -12,7 +13,7 @@ ghost use Rattle.leaf_store.specs.Tag.{tag_of};
 use crate::order::{count_under, move_head, move_tail};
 use crate::ranks::settle;
 use crate::rows::{add_tags, cut_tags, first_bits, place_of, take_tag};
-use key_bytes::{Bound, Key, prefix_hash};
+use key_bytes::{Bound, Key, prefix_hash, separator};
 use leaf_tags::Tags;
 use std::alloc::{AllocError, Global};
 use std::marker::Model;
@@ -32,13 +33,14 @@ pub struct Leaf<V> {
 
 impl<V> Model for Leaf<V> {
     ghost use Rattle.std.specs.Prelude.{ℕ, ◌-◌, length, vec_capacity, min};
+    ghost use Rattle.map_model.specs.Halves.{keys_of};
     ghost use Rattle.map_model.specs.Maps.{sorted};
     ghost use Rattle.leaf_store.specs.Leaf.{LeafMap};
     ghost use Rattle.leaf_store.specs.Rows.{IsLeaf};
 
     ghost Value = { LeafMap V };
 
-    ghost view = { λ l. record { map = sorted l.rows.items; spare = min (vec_capacity l.rows - length l.rows.items) l.tags.spare; salt = l.salt; is_ordered = l.ordered } };
+    ghost view = { λ l. record { map = sorted l.rows.items; keys = keys_of l.rows.items; spare = min (vec_capacity l.rows - length l.rows.items) l.tags.spare; salt = l.salt; is_ordered = l.ordered } };
 
     ghost invariant = { λ l. IsLeaf l.salt l.rows.items l.tags.pairs l.ordered };
 }
@@ -68,9 +70,14 @@ impl<V> Leaf<V> {
 
     /// The tags of the keys, each with the place of its key's row.
     pub fn tags(&self) -> &Tags
-        // Each tag stands there as often as keys have it, and each place below `len` once.
+        // The tag at a place is that of the key in the row there. Each tag stands there as often as keys
+        // have it, and each place below `len` once.
+        ensures each { (tag place : ℕ) → Contains result.now.pairs (tag, place) → tag ≡ tag_of self.now.salt (slice_index_or self.now.keys place []) }
         ensures tags { IsPermutation (map (λ p. tag_of self.now.salt p.0) self.now.map) (map (λ p. p.0) result.now.pairs) }
         ensures places { IsPermutation (range_with_len 0 (length self.now.map)) (map (λ p. p.1) result.now.pairs) }
+
+        // The rows are those of the map's keys.
+        ensures rows { IsPermutation (keys_of self.now.map) self.now.keys }
     {
         &self.tags
     }
@@ -260,22 +267,36 @@ impl<V> Leaf<V> {
         (&row.0, &row.1)
     }
 
+    /// The key that parts the leaf's halves: the shortest beginning of the upper half's first key that
+    /// is above the lower half's last one. It puts the rows in order, which doesn't fail; memory is
+    /// wanted for the key alone.
+    pub fn parting(&mut self, alloc: Global) -> Result<Key, AllocError>
+        requires { 2 ≤ length self.old.map }
+        ensures key { IfOk result (λ key. key ≡ parting self.old.map) }
+        ensures map { self.new.map ≡ self.old.map }
+        ensures salt { self.new.salt ≡ self.old.salt }
+        ensures spare { self.old.spare ≤ self.new.spare }
+        ensures ordered { IsTrue self.new.is_ordered }
+    {
+        self.put_in_order();
+        let stay = self.len() - self.len() / 2;
+        separator(alloc, self.at(stay - 1).0, self.at(stay).0)
+    }
+
     /// Cuts the leaf: its lower half stays, the greater one where they differ by a key, and the
-    /// other half goes to `right`. Both are in order afterwards.
+    /// other half goes to `right`, which was made before and has room for it. So nothing can refuse
+    /// the cut. Both are in order afterwards.
     ///
-    /// The rows and their tags move into the room of `right`, so this call never fails today. Keys
-    /// are hashed again only where the two salts differ.
-    pub fn split_off(&mut self, right: &mut Leaf<V>) -> Result<(), AllocError>
+    /// The rows and their tags move into the room of `right`. Keys are hashed again only where the two
+    /// salts differ.
+    pub fn halve(&mut self, right: &mut Leaf<V>)
         requires empty { right.old.map ≡ [] }
         requires room { length self.old.map - (length self.old.map + 1) / 2 ≤ right.old.spare }
-        ensures stay { OnOk result (self.new.map ≡ take ((length self.old.map + 1) / 2) self.old.map) }
-        ensures go { OnOk result (right.new.map ≡ drop ((length self.old.map + 1) / 2) self.old.map) }
-        ensures answers { IsOk result }
-
-        ensures refused { OnErr result ((self.new.map ≡ self.old.map) × (right.new.map ≡ right.old.map)) }
+        ensures stay { self.new.map ≡ lower_half self.old.map }
+        ensures go { right.new.map ≡ upper_half self.old.map }
         ensures salts { (self.new.salt ≡ self.old.salt) × (right.new.salt ≡ right.old.salt) }
         ensures spare { self.old.spare ≤ self.new.spare }
-        ensures ordered { OnOk result (IsTrue self.new.is_ordered × IsTrue right.new.is_ordered) }
+        ensures ordered { IsTrue self.new.is_ordered × IsTrue right.new.is_ordered }
     {
         self.put_in_order();
         let stay = self.rows.len() - self.rows.len() / 2;
@@ -289,10 +310,26 @@ impl<V> Leaf<V> {
         );
         move_tail(&mut self.rows, stay, &mut right.rows);
         right.ordered = true;
+    }
+
+    /// [`Leaf::halve`], as a call that might be refused: it never is.
+    pub fn split_off(&mut self, right: &mut Leaf<V>) -> Result<(), AllocError>
+        requires empty { right.old.map ≡ [] }
+        requires room { length self.old.map - (length self.old.map + 1) / 2 ≤ right.old.spare }
+        ensures stay { OnOk result (self.new.map ≡ lower_half self.old.map) }
+        ensures go { OnOk result (right.new.map ≡ upper_half self.old.map) }
+        ensures answers { IsOk result }
+
+        ensures refused { OnErr result ((self.new.map ≡ self.old.map) × (right.new.map ≡ right.old.map)) }
+        ensures salts { (self.new.salt ≡ self.old.salt) × (right.new.salt ≡ right.old.salt) }
+        ensures spare { self.old.spare ≤ self.new.spare }
+        ensures ordered { OnOk result (IsTrue self.new.is_ordered × IsTrue right.new.is_ordered) }
+    {
+        self.halve(right);
         Ok(())
     }
 
-    /// Cuts the leaf as [`Leaf::split_off`] does, but its upper half stays, and the lower half goes to
+    /// Cuts the leaf as [`Leaf::halve`] does, but its upper half stays, and the lower half goes to
     /// `left`, which has the same salt. Both are in order afterwards.
     ///
     /// So the memory of the leaf stays with the upper half, where keys go on that come in their order,
@@ -304,8 +341,8 @@ impl<V> Leaf<V> {
         requires empty { left.old.map ≡ [] }
         requires salt { left.old.salt ≡ self.old.salt }
         requires room { (length self.old.map + 1) / 2 ≤ left.old.spare }
-        ensures stay { self.new.map ≡ drop ((length self.old.map + 1) / 2) self.old.map }
-        ensures go { left.new.map ≡ take ((length self.old.map + 1) / 2) self.old.map }
+        ensures stay { self.new.map ≡ upper_half self.old.map }
+        ensures go { left.new.map ≡ lower_half self.old.map }
         ensures salts { (self.new.salt ≡ self.old.salt) × (left.new.salt ≡ left.old.salt) }
         ensures ordered { IsTrue self.new.is_ordered × IsTrue left.new.is_ordered }
     {
@@ -334,6 +371,25 @@ impl<V> Leaf<V> {
         add_tags(&mut self.tags, &self.rows, self.salt);
         self.ordered = false;
         Ok(())
+    }
+
+    /// [`Leaf::absorb`] of a leaf that isn't wanted any more. Where there is no memory for its pairs, it
+    /// comes back as it was.
+    pub fn join(&mut self, mut right: Leaf<V>) -> Result<(), Leaf<V>>
+    where
+        V: Drop,
+        requires { (key : List ℕ) → (find self.old.map key ≡ None) ⊎ (find right.map key ≡ None) }
+        ensures joined { OnOk result (self.new.map ≡ sorted (self.old.map ++ right.map)) }
+        ensures succeeds { length right.map ≤ self.old.spare → IsOk result }
+
+        ensures back { IfErr result (λ back. back ≡ right) }
+        ensures refused { OnErr result (self.new.map ≡ self.old.map) }
+        ensures salt { self.new.salt ≡ self.old.salt }
+    {
+        match self.absorb(&mut right) {
+            Ok(()) => Ok(()),
+            Err(_) => Err(right),
+        }
     }
 
     // Puts the rows in the order of their keys, unless they are.

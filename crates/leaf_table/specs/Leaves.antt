@@ -12,7 +12,7 @@ use Rattle.leaf_table.specs.Table.{Table}
 
 -- what is read past the last leaf: no pairs
 abbrev pub no_leaf : LeafMap (List ℕ)
-no_leaf = record { map = []; spare = 0; salt = 0; is_ordered = true }
+no_leaf = record { map = []; keys = []; spare = 0; salt = 0; is_ordered = true }
 
 -- the pairs of a leaf by its number
 abbrev pub map_at : List (LeafMap (List ℕ)) → ℕ → Pairs (List ℕ)

@@ -4,7 +4,7 @@ use Rattle.leaf_store.specs.Rows.{AreTags}
 use Rattle.leaf_store.proofs.Unsorted.{sorted_nothing, sorted_ascending}
 use Rattle.leaf_store.proofs.Halves.{left_leaf, right_leaf, left_map, right_map}
 use Rattle.leaf_store.proofs.Settled.{no_tags, settled_rows, seen_pairs, seen_spare}
-use Rattle.leaf_store.proofs.leaf.Leaf.split_off.Goals as goal
+use Rattle.leaf_store.proofs.leaf.Leaf.halve.Goals as goal
 
 pub move_tail-requires-clause-empty : goal.move_tail-requires-clause-empty
 move_tail-requires-clause-empty g c = sorted_nothing c.right.inside.rows.items c.right.invariant.keys (seen_pairs _ _ c.right.view_is ∙ c.requires.empty)
