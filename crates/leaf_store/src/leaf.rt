@@ -407,5 +407,12 @@ impl<V> Leaf<V> {
     }
 }
 
+// A leaf may go to another thread, where its values may.
+fn leaf_is_send<V: Send>() {
+    is_send::<Leaf<V>>();
+}
+
+fn is_send<T: Send>() {}
+
 #[cfg(test)]
 mod tests;

@@ -1,45 +1,22 @@
 -- The leaves on both sides of one, by the links of its row.
-use Rattle.std.proofs.Common.{◌≡◌, ◌≢◌, ℕ, ◌+◌, List, [], ◌∷◌, Bool, true, false, eqb, ◌&&◌, ◌||◌, is_some, Option, Some, None, refl, sym, ap, ◌∙◌, subst, arith, eq-eqb, ne_eqb, true≢false}
+use Rattle.std.proofs.Common.{◌≡◌, ◌≢◌, ℕ, ◌+◌, List, [], ◌∷◌, Bool, true, false, eqb, ◌&&◌, ◌||◌, Option, Some, None, refl, sym, ◌∙◌, subst, arith, true≢false}
 use Rattle.std.specs.Prelude.{MatchOption}
 use mathlib.Core.Logic.{dite}
 use native.Mathlib.Decide.{ℕ_discrete}
-use Rattle.anchor_rules.specs.Anchors.{Anchors, Span, span, has_leaf, Rises, adjacent}
-use Rattle.anchor_rules.proofs.Spans.{span_later}
-use Rattle.anchor_rules.proofs.Parts.{none_later}
+use Rattle.anchor_rules.specs.Anchors.{Anchors, span, has_leaf, Rises, adjacent}
 use Rattle.row_words.specs.declared.shape.Shape.{Shape}
 use Rattle.row_words.specs.Decode.{previous_at, next_at}
 use Rattle.meta_trie.specs.Stands.{LeafChain}
-use Rattle.leaf_table.specs.Facts.{IsBefore, IsBehind}
+use Rattle.anchor_rules.specs.Neighbours.{IsBefore, IsBehind}
+use Rattle.anchor_rules.proofs.Neighbours.{live_later, adjacent_first, adjacent_later, first_alone}
 
 -- a link names this leaf, or none
 abbrev pub Names : ℕ → Option ℕ → Type 0
 Names link other = MatchOption other (link ≡ 0) (λ leaf. link ≡ leaf + 1)
 
--- a leaf that isn't the first anchor's is live behind it
-pub still : (x : List ℕ × ℕ) (xs : Anchors) (leaf : ℕ) → x.1 ≢ leaf → has_leaf (x ∷ xs) leaf ≡ true → has_leaf xs leaf ≡ true
-still x xs leaf ne has = sym (ap (λ (o : Option Span). is_some o) (span_later x xs leaf ne)) ∙ has
-
 or_right : (a b : Bool) → b ≡ true → (a || b) ≡ true
 or_right true b e = refl
 or_right false b e = e
-
--- two leaves at the head of a list
-adjacent_first : (x y : List ℕ × ℕ) (ys : Anchors) (l r : ℕ) → x.1 ≡ l → y.1 ≡ r → adjacent (x ∷ y ∷ ys) l r ≡ true
-adjacent_first x y ys l r e f = ap (λ b. (b && eqb y.1 r) || adjacent (y ∷ ys) l r) (eq-eqb x.1 l e) ∙ ap (λ b. (true && b) || adjacent (y ∷ ys) l r) (eq-eqb y.1 r f)
-
-adjacent_later : (x y : List ℕ × ℕ) (ys : Anchors) (l r : ℕ) → x.1 ≢ l → adjacent (x ∷ y ∷ ys) l r ≡ adjacent (y ∷ ys) l r
-adjacent_later x y ys l r ne = ap (λ b. (b && eqb y.1 r) || adjacent (y ∷ ys) l r) (ne_eqb x.1 l ne)
-
--- no leaf is just before the first one
-pub first_alone : (x : List ℕ × ℕ) (xs : Anchors) (leaf other : ℕ) → span xs leaf ≡ None → adjacent (x ∷ xs) other leaf ≡ false
-first_alone x [] leaf other none = refl
-first_alone x (y ∷ ys) leaf other none =
-    let h = none_later y ys leaf none in
-    ap (λ b. (eqb x.1 other && b) || adjacent (y ∷ ys) other leaf) (ne_eqb y.1 leaf h.0) ∙ (nothing (eqb x.1 other) (adjacent (y ∷ ys) other leaf) ∙ first_alone y ys leaf other h.1)
-  where
-    nothing : (a b : Bool) → ((a && false) || b) ≡ b
-    nothing true b = refl
-    nothing false b = refl
 
 module _ (k : Shape) (ws : List ℕ) (leaf : ℕ) where
   -- what stands behind a leaf
@@ -48,13 +25,13 @@ module _ (k : Shape) (ws : List ℕ) (leaf : ℕ) where
   behind_in (x ∷ []) previous None c has names rises = λ i. refl
   behind_in (x ∷ []) previous (Some other) c has names rises = dite (ℕ_discrete x.1 leaf)
       (λ same. let link : next_at k ws leaf ≡ 0 = subst (λ i. next_at k ws i ≡ 0) same c.3 in absurd (omega (arith, link, names)))
-      (λ ne. absurd (true≢false (sym (still x [] leaf ne has))))
+      (λ ne. absurd (true≢false (sym (live_later x [] leaf ne has))))
   behind_in (x ∷ y ∷ ys) previous None c has names rises = dite (ℕ_discrete x.1 leaf)
       (λ same. let link : next_at k ws leaf ≡ y.1 + 1 = subst (λ i. next_at k ws i ≡ y.1 + 1) same c.3 in absurd (omega (arith, link, names)))
-      (λ ne i. adjacent_later x y ys leaf i ne ∙ behind_in (y ∷ ys) (x.1 + 1) None c.4 (still x (y ∷ ys) leaf ne has) names rises.2 i)
+      (λ ne i. adjacent_later x y ys leaf i ne ∙ behind_in (y ∷ ys) (x.1 + 1) None c.4 (live_later x (y ∷ ys) leaf ne has) names rises.2 i)
   behind_in (x ∷ y ∷ ys) previous (Some other) c has names rises = dite (ℕ_discrete x.1 leaf)
       (λ same. let link : next_at k ws leaf ≡ y.1 + 1 = subst (λ i. next_at k ws i ≡ y.1 + 1) same c.3 in adjacent_first x y ys leaf other same (omega (arith, link, names)))
-      (λ ne. adjacent_later x y ys leaf other ne ∙ behind_in (y ∷ ys) (x.1 + 1) (Some other) c.4 (still x (y ∷ ys) leaf ne has) names rises.2)
+      (λ ne. adjacent_later x y ys leaf other ne ∙ behind_in (y ∷ ys) (x.1 + 1) (Some other) c.4 (live_later x (y ∷ ys) leaf ne has) names rises.2)
 
   -- what stands before a leaf that isn't the first one
   before_in : (w : List ℕ × ℕ) (A : Anchors) → LeafChain k ws (w.1 + 1) A → has_leaf A leaf ≡ true → (previous_at k ws leaf ≢ 0) × ((l : ℕ) → previous_at k ws leaf ≡ l + 1 → adjacent (w ∷ A) l leaf ≡ true)
@@ -64,7 +41,7 @@ module _ (k : Shape) (ws : List ℕ) (leaf : ℕ) where
       let link : previous_at k ws leaf ≡ w.1 + 1 = subst (λ i. previous_at k ws i ≡ w.1 + 1) same c.2 in
       (λ zero_link. omega (arith, link, zero_link), λ l e. adjacent_first w x xs l leaf (omega (arith, link, e)) same))
       (λ ne.
-      let rest = before_in x xs c.4 (still x xs leaf ne has) in
+      let rest = before_in x xs c.4 (live_later x xs leaf ne has) in
       (rest.0, λ l e. or_right (eqb w.1 l && eqb x.1 leaf) (adjacent (x ∷ xs) l leaf) (rest.1 l e)))
 
 -- the row of a leaf names those beside it
@@ -75,7 +52,7 @@ pub before_is : (k : Shape) (ws : List ℕ) (A : Anchors) (leaf : ℕ) (other : 
 before_is k ws [] leaf other c rises has names = absurd (true≢false (sym has))
 before_is k ws (x ∷ xs) leaf None c rises has names = dite (ℕ_discrete x.1 leaf)
     (λ same i. first_alone x xs leaf i (subst (λ j. span xs j ≡ None) same rises.1))
-    (λ ne. absurd ((before_in k ws leaf x xs c.4 (still x xs leaf ne has)).0 names))
+    (λ ne. absurd ((before_in k ws leaf x xs c.4 (live_later x xs leaf ne has)).0 names))
 before_is k ws (x ∷ xs) leaf (Some other) c rises has names = dite (ℕ_discrete x.1 leaf)
     (λ same. let link : previous_at k ws leaf ≡ 0 = subst (λ i. previous_at k ws i ≡ 0) same c.2 in absurd (omega (arith, link, names)))
-    (λ ne. (before_in k ws leaf x xs c.4 (still x xs leaf ne has)).1 other names)
+    (λ ne. (before_in k ws leaf x xs c.4 (live_later x xs leaf ne has)).1 other names)

@@ -1,17 +1,13 @@
 pub mod Beside
 pub mod Leaves
-pub mod Lengths
 pub mod ListedLeaves
 pub mod LiveLeaves
 pub mod Merging
 pub mod Overwritten
 pub mod PartEnds
-pub mod Ranges
 pub mod Readings
 pub mod Splitting
-pub mod Spreads
 pub mod Standing
-pub mod TableSizes
 pub mod WholeCalls
 pub mod Written
 pub mod Zeros

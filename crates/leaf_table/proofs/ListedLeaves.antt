@@ -6,7 +6,7 @@ use Rattle.anchor_rules.specs.Anchors.{Anchors, Span, has_leaf, with_split, with
 use Rattle.anchor_rules.proofs.Edits.{split_else, merge_here, merge_later}
 use Rattle.anchor_rules.proofs.Spans.{span_here, span_later}
 use Rattle.leaf_table.specs.Leaves.{AreListed}
-use Rattle.leaf_table.proofs.Beside.{still}
+use Rattle.anchor_rules.proofs.Neighbours.{live_later}
 
 -- a leaf that is live behind an anchor is so with it
 behind : (x : List ℕ × ℕ) (xs : Anchors) (i : ℕ) → has_leaf xs i ≡ true → has_leaf (x ∷ xs) i ≡ true
@@ -21,13 +21,13 @@ was_live (x ∷ xs) r i has = dite (ℕ_discrete x.1 r)
     (λ e. behind x xs i (ap (λ (B : Anchors). has_leaf B i) (sym (merge_here x xs r e)) ∙ has))
     (λ ne. dite (ℕ_discrete x.1 i)
     (λ here. ap (λ (o : Option Span). is_some o) (span_here x xs i here))
-    (λ off. behind x xs i (was_live xs r i (still x (with_merge xs r) i off (ap (λ (B : Anchors). has_leaf B i) (sym (merge_later x xs r ne)) ∙ has)))))
+    (λ off. behind x xs i (was_live xs r i (live_later x (with_merge xs r) i off (ap (λ (B : Anchors). has_leaf B i) (sym (merge_later x xs r ne)) ∙ has)))))
 
 -- the one leaf of a new table
 pub listed_first : (n : ℕ) → 0 < n → AreListed (([], 0) ∷ []) n
 listed_first n some leaf has = dite (ℕ_discrete 0 leaf)
     (λ e. omega (arith, e, some))
-    (λ ne. absurd (true≢false (sym (still ([], 0) [] leaf ne has))))
+    (λ ne. absurd (true≢false (sym (live_later ([], 0) [] leaf ne has))))
 
 -- in a longer list
 pub listed_more : (A : Anchors) (n m : ℕ) → n ≤ m → AreListed A n → AreListed A m

@@ -1,44 +1,11 @@
--- Where a part of the map ends, and what it has.
-use Rattle.std.proofs.Common.{◌≡◌, ◌≢◌, ℕ, ◌≤◌, List, [], ◌∷◌, length, Bool, true, false, cond, not, ◌&&◌, Option, Some, None, refl, sym, ap, ◌∙◌, subst, arith, true≢false}
-use Rattle.std.specs.declared.cmp.Ordering.{Ordering}
-use Rattle.std.specs.declared.cmp.Ordering.TheVariants.{Less, Equal, Greater}
-use Rattle.std.specs.Ordering.{is_lt, ordering_reverse}
-use Rattle.key_bytes.specs.Order.{is_below}
-use Rattle.key_bytes.specs.Bound.{bound_cmp}
+-- Where a part of the map ends.
+use Rattle.std.proofs.Common.{◌≡◌, ℕ, List, [], Option, refl, sym, ap, ◌∙◌}
 use Rattle.key_bytes.specs.declared.bound.Bound.{Bound}
+use Rattle.anchor_rules.specs.Anchors.{Anchors, span}
+use Rattle.leaf_spans.specs.Ends.{end_bound, leaf_from, span_end, lesser, part_end}
 use Rattle.key_bytes.specs.declared.bound.Bound.TheVariants.{Low, At, High}
-use Rattle.key_bytes.proofs.Orders.{less_from, bound_cmp-back}
-use Rattle.anchor_rules.specs.Anchors.{Anchors, Span, is_before, in_span, span, target, AreAnchors}
-use Rattle.anchor_rules.proofs.Spans.{in_target}
-use Rattle.map_model.specs.Maps.{Pairs, keep, between}
-use Rattle.map_model.proofs.Cuts.{end_within}
-use Rattle.prefix_search.specs.Search.{IsFollowed}
-use Rattle.leaf_table.specs.Facts.{leaf_from, span_end, lesser, part_end}
-use Rattle.leaf_table.specs.Spread.{Spread, end_bound}
-use Rattle.leaf_table.proofs.Ranges.{part_at, part_low}
-
--- the lower one of two ends is one of them, and above neither
-pub lesser_left : (a b : Bound) → bound_cmp (lesser a b) a ≢ Greater
-lesser_left a b = by (is_lt (bound_cmp a b)) refl
-  where
-    reversed : (o : Ordering) → is_lt o ≡ false → ordering_reverse o ≢ Greater
-    reversed Less e = absurd (true≢false e)
-    reversed Equal e = λ f. absurd (cc (f))
-    reversed Greater e = λ f. absurd (cc (f))
-
-    by : (t : Bool) → is_lt (bound_cmp a b) ≡ t → bound_cmp (cond t a b) a ≢ Greater
-    by true e = end_within a
-    by false e = λ f. reversed (bound_cmp a b) e (sym (bound_cmp-back a b) ∙ f)
-
-pub lesser_right : (a b : Bound) → bound_cmp (lesser a b) b ≢ Greater
-lesser_right a b = by (is_lt (bound_cmp a b)) refl
-  where
-    by : (t : Bool) → is_lt (bound_cmp a b) ≡ t → bound_cmp (cond t a b) b ≢ Greater
-    by true e = λ f. absurd (cc (less_from (bound_cmp a b) e, f))
-    by false e = end_within b
-
-pub lesser_above : (from a b : Bound) → bound_cmp from a ≡ Less → bound_cmp from b ≡ Less → bound_cmp from (lesser a b) ≡ Less
-lesser_above from a b e f = elim (is_lt (bound_cmp a b)) as (λ t. bound_cmp from (cond t a b) ≡ Less) [ true ↦ e | false ↦ f ]
+use Rattle.prefix_search.specs.Search.{IsFollowed, IsLocated}
+use Rattle.prefix_search.specs.declared.answers.Located.{Located}
 
 -- the end of the span that a leaf and the anchor behind it tell
 pub followed_end : (A : Anchors) (leaf : ℕ) (next : Option (List ℕ)) → IsFollowed A leaf next → end_bound next ≡ span_end (span A leaf)
@@ -47,55 +14,9 @@ followed_end A leaf next follows = sym (ap span_end follows.1)
 pub part_end_is : (A : Anchors) (from to : Bound) (leaf : ℕ) (next : Option (List ℕ)) → leaf ≡ leaf_from A from → IsFollowed A leaf next → lesser (end_bound next) to ≡ part_end A from to
 part_end_is A from to leaf next at follows = ap (λ end. lesser end to) (followed_end A leaf next follows ∙ ap (λ l. span_end (span A l)) at)
 
--- a key in a span is below its end
-below_end : (key : List ℕ) (s : Span) → in_span s key ≡ true → bound_cmp (At key) (end_bound s.1) ≡ Less
-below_end key s within = by s.1 (second (not (is_below key s.0)) (is_before s.1 key) within)
-  where
-    second : (x y : Bool) → (x && y) ≡ true → y ≡ true
-    second true y e = e
-    second false y e = absurd (true≢false (sym e))
-
-    by : (end : Option (List ℕ)) → is_before end key ≡ true → bound_cmp (At key) (end_bound end) ≡ Less
-    by None e = refl
-    by (Some end) e = less_from _ e
-
-low_below : (end : Option (List ℕ)) → bound_cmp Low (end_bound end) ≡ Less
-low_below None = refl
-low_below (Some end) = refl
-
--- a part is empty only where its leaf has no key in the range: it ends above its lower end
-span_end_above : (A : Anchors) → AreAnchors A → (from to : Bound) → bound_cmp from to ≡ Less → bound_cmp from (span_end (span A (leaf_from A from))) ≡ Less
-span_end_above A are Low to less =
-    let h = in_target A are [] in
-    ap (λ o. bound_cmp Low (span_end o)) h.1 ∙ low_below h.0.1
-span_end_above A are (At key) to less =
-    let h = in_target A are key in
-    ap (λ o. bound_cmp (At key) (span_end o)) h.1 ∙ below_end key h.0 h.2
-span_end_above A are High Low less = absurd (cc (less))
-span_end_above A are High (At key) less = absurd (cc (less))
-span_end_above A are High High less = absurd (cc (less))
-
-pub part_end_above : (A : Anchors) → AreAnchors A → (from to : Bound) → bound_cmp from to ≡ Less → bound_cmp from (part_end A from to) ≡ Less
-part_end_above A are from to less = lesser_above from (span_end (span A (leaf_from A from))) to (span_end_above A are from to less) less
-
-pub part_end_within : (A : Anchors) (from to : Bound) → bound_cmp (part_end A from to) to ≢ Greater
-part_end_within A from to = lesser_right (span_end (span A (leaf_from A from))) to
-
-module _ {V : Type 0} (A : Anchors) (are : AreAnchors A) (m : Pairs V) (maps : ℕ → Pairs V) (spread : Spread A m maps) where
-  -- a part is found in one leaf
-  pub part_pairs : (from to : Bound) → bound_cmp from to ≡ Less → between m from (part_end A from to) ≡ between (maps (leaf_from A from)) from (part_end A from to)
-  part_pairs Low to less =
-      let h = in_target A are [] in
-      part_low A are m maps spread h.0 (part_end A Low to) (subst (λ o. bound_cmp (part_end A Low to) (span_end o) ≢ Greater) h.1 (lesser_left (span_end (span A (target A []))) to)) h.1
-  part_pairs (At key) to less =
-      let h = in_target A are key in
-      part_at A are m maps spread h.0 (part_end A (At key) to) (subst (λ o. bound_cmp (part_end A (At key) to) (span_end o) ≢ Greater) h.1 (lesser_left (span_end (span A (target A key))) to)) key h.1
-  part_pairs High Low less = absurd (cc (less))
-  part_pairs High (At key) less = absurd (cc (less))
-  part_pairs High High less = absurd (cc (less))
-
-pub length_keep : {V : Type 0} (test : List ℕ → Bool) (m : Pairs V) → length (keep test m) ≤ length m
-length_keep test [] = omega arith
-length_keep test (x ∷ m) =
-    let ih = length_keep test m in
-    elim (test x.0) as (λ b. length (cond b (x ∷ keep test m) (keep test m)) ≤ length (x ∷ m)) [ true ↦ omega (arith, ih) | false ↦ omega (arith, ih) ]
+-- a leaf that was looked for from an end on is that of its key, or the first one
+pub located_from : (A : Anchors) (from : Bound) (located : Located) → ((key : List ℕ) → from ≡ At key → IsLocated A key located) → (((key : List ℕ) → from ≡ At key → ⊥) → IsLocated A [] located)
+    → (located.leaf ≡ leaf_from A from) × IsFollowed A located.leaf located.next
+located_from A Low located by_key first = let h = first (λ key e. absurd (cc (e))) in (h.leaf, h.next)
+located_from A (At key) located by_key first = let h = by_key key refl in (h.leaf, h.next)
+located_from A High located by_key first = let h = first (λ key e. absurd (cc (e))) in (h.leaf, h.next)

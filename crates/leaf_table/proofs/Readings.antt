@@ -1,35 +1,16 @@
 -- What is read of a table's leaves.
-use Rattle.std.proofs.Common.{◌≡◌, ℕ, ◌<◌, List, [], ◌∷◌, length, get_or, true, Some, refl, sym, ap, ◌∙◌, subst}
-use Rattle.anchor_rules.specs.Anchors.{Anchors, Span, AreAnchors, span, has_leaf, target}
-use Rattle.anchor_rules.specs.Items.{first_leaf}
-use Rattle.anchor_rules.proofs.Spans.{in_target}
+use Rattle.std.proofs.Common.{◌≡◌, ℕ, ◌<◌, List, length, get_or, true, sym, ap, ◌∙◌, subst}
+use Rattle.anchor_rules.specs.Anchors.{has_leaf, target}
 use Rattle.key_bytes.specs.Fnv.{prefix_hash}
-use Rattle.key_bytes.specs.declared.bound.Bound.{Bound}
-use Rattle.key_bytes.specs.declared.bound.Bound.TheVariants.{Low, At, High}
 use Rattle.leaf_store.specs.Leaf.{LeafMap}
 use Rattle.map_model.specs.Maps.{Pairs, IsMap, find}
 use Rattle.meta_trie.specs.Stands.{anchors_of}
 use Rattle.row_words.specs.declared.shape.Shape.{Shape}
-use Rattle.leaf_table.specs.Facts.{leaf_from}
 use Rattle.leaf_table.specs.Leaves.{map_at, table_of, IsLeafTable}
 use Rattle.leaf_table.specs.Table.{Table, size_at}
 use Rattle.leaf_table.proofs.Leaves.{map_read, salt_read}
-use Rattle.leaf_table.proofs.Ranges.{target_first}
-use Rattle.leaf_table.proofs.Spreads.{target_live, spread_ascends, spread_find}
+use Rattle.leaf_spans.proofs.Spreads.{target_live, spread_ascends, spread_find}
 use Rattle.leaf_table.proofs.Standing.{leaf_size}
-
--- the first leaf has the keys from the lowest end on
-pub first_target : (A : Anchors) → AreAnchors A → first_leaf A ≡ 0 → target A [] ≡ 0
-first_target [] are zero = absurd (cc (are.first))
-first_target (x ∷ xs) are zero = target_first x xs are ∙ zero
-
-pub first_span : (A : Anchors) → AreAnchors A → first_leaf A ≡ 0 → (s : Span) × (span A 0 ≡ Some s)
-first_span A are zero = let h = in_target A are [] in (h.0, subst (λ leaf. span A leaf ≡ Some h.0) (first_target A are zero) h.1)
-
-pub from_first : (A : Anchors) (from : Bound) → ((key : List ℕ) → from ≡ At key → ⊥) → leaf_from A from ≡ target A []
-from_first A Low other = refl
-from_first A (At key) other = absurd (other key refl)
-from_first A High other = refl
 
 module _ (k : Shape) (ws : List ℕ) (leaves : List (LeafMap (List ℕ))) (keys : ℕ) (whole : IsLeafTable k ws leaves keys) (t : Table) (is : table_of k ws leaves ≡ t) where
   -- a leaf of the table has its place

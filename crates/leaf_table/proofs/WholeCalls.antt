@@ -1,5 +1,5 @@
 -- What a whole call leaves of a table, where it is known what it does to the leaves and to the rows.
-use Rattle.std.proofs.Common.{◌≡◌, ◌≢◌, ℕ, ◌+◌, ◌*◌, ◌<◌, ◌≤◌, List, [], ◌∷◌, ◌++◌, length, length-append, Bool, true, false, cond, is_some, Option, None, IsSome, ◌⊎◌, inl, inr, refl, sym, ap, ◌∙◌, subst, arith, take, drop, true≢false}
+use Rattle.std.proofs.Common.{◌≡◌, ◌≢◌, ℕ, ◌+◌, ◌*◌, ◌<◌, ◌≤◌, List, [], ◌∷◌, ◌++◌, length, length-append, Bool, true, false, cond, is_some, Option, None, IsSome, ◌⊎◌, inl, inr, refl, sym, ap, ◌∙◌, subst, arith, true≢false}
 use Rattle.anchor_rules.specs.Anchors.{Anchors, span, has_leaf, target, Rises, splits, with_split, adjacent, with_merge}
 use Rattle.anchor_rules.specs.Items.{first_leaf}
 use Rattle.leaf_store.specs.Leaf.{LeafMap}
@@ -9,17 +9,22 @@ use Rattle.meta_trie.specs.Stands.{StandsFor, IsFreeLeaf, CanSplit, anchors_of}
 use Rattle.meta_trie.proofs.LeafRows.{leaves_fit}
 use Rattle.row_words.specs.declared.shape.Shape.{Shape}
 use Rattle.row_words.specs.Shape.{IsShape}
-use Rattle.leaf_table.specs.Changes.{stay_count, parting, IsSplit, IsMerged}
+use Rattle.leaf_spans.specs.Counting.{AreFew}
+use Rattle.leaf_spans.proofs.Merging.{merge_sorted, spread_merge}
+use Rattle.map_model.specs.Halves.{lower_half, upper_half, parting}
+use Rattle.leaf_table.specs.Changes.{IsSplit, IsMerged}
 use Rattle.leaf_table.specs.Leaves.{map_at, HaveSalt, AreListed, table_of, IsLeafTable}
-use Rattle.leaf_table.specs.Spread.{Spread, joined}
+use Rattle.leaf_spans.specs.Spread.{Spread, joined}
 use Rattle.leaf_table.specs.Table.{Table, size_at}
-use Rattle.leaf_table.proofs.Beside.{first_alone}
-use Rattle.leaf_table.proofs.Lengths.{length_with, length_without}
+use Rattle.anchor_rules.proofs.Neighbours.{first_alone, adjacent_live}
+use Rattle.map_model.proofs.Lengths.{length_with, length_without}
 use Rattle.leaf_table.proofs.ListedLeaves.{listed_first, listed_more, listed_split, listed_merge}
-use Rattle.leaf_table.proofs.Merging.{adjacent_live, spread_merge, is_merged}
-use Rattle.leaf_table.proofs.Splitting.{stay_less, parting_splits, spread_split, is_split}
-use Rattle.leaf_table.proofs.Spreads.{spread_start, spread_with, spread_without, spread_same, spread_find, spread_ascends}
-use Rattle.leaf_table.proofs.Standing.{table_is, leaf_table_is, leaf_size, few_with, few_without, few_split, few_merge}
+use Rattle.leaf_table.proofs.Merging.{is_merged}
+use Rattle.leaf_spans.proofs.Halving.{parting_splits, spread_split}
+use Rattle.leaf_table.proofs.Splitting.{is_split}
+use Rattle.leaf_spans.proofs.Spreads.{spread_start, spread_with, spread_without, spread_same, spread_find, spread_ascends}
+use Rattle.leaf_spans.proofs.Sizes.{few_with, few_without, few_split, few_merge}
+use Rattle.leaf_table.proofs.Standing.{table_is, leaf_table_is, leaf_size}
 
 abbrev one_if : Bool → ℕ
 one_if found = cond found 1 0
@@ -30,7 +35,7 @@ pub record AreTable (k : Shape) (ws : List ℕ) (leaves : List (LeafMap (List �
   pub is : table_of k ws leaves ≡ t
 
 stands_as : (k : Shape) (ws : List ℕ) (leaves : List (LeafMap (List ℕ))) (keys : ℕ) (A : Anchors) (m : Pairs (List ℕ)) → IsShape k → StandsFor k ws A → AreListed A (length leaves) → HaveSalt leaves k.salt → Spread A m (map_at leaves)
-    → ((leaf : ℕ) → length (map_at leaves leaf) ≤ k.hard) → keys ≡ length m → AreTable k ws leaves keys (record { shape = k; anchors = A; map = m })
+    → AreFew (λ leaf. length (map_at leaves leaf)) k.hard → keys ≡ length m → AreTable k ws leaves keys (record { shape = k; anchors = A; map = m })
 stands_as k ws leaves keys A m ranges stands listed salts spread few all = record {
   whole = leaf_table_is k ws leaves A m stands spread keys ranges listed salts few all;
   is = table_is k ws leaves A m stands spread;
@@ -46,7 +51,7 @@ module _ (k : Shape) (ws : List ℕ) (leaves : List (LeafMap (List ℕ))) (keys 
   -- there are far fewer keys than a counter can hold
   pub keys_bound : keys ≤ 268435456
   keys_bound =
-      let most : (leaf : ℕ) → length (map_at leaves leaf) ≤ 4096 = λ leaf. let h = whole.few leaf in let r = whole.ranges.hard.1 in omega (arith, h, r) in
+      let most : (leaf : ℕ) → length (map_at leaves leaf) ≤ 4096 = λ leaf. let h : length (map_at leaves leaf) ≤ k.hard = whole.few leaf in let r = whole.ranges.hard.1 in omega (arith, h, r) in
       let sum = total (anchors_of k ws) most in
       let fit = leaves_fit k ws (anchors_of k ws) whole.stands in
       let all = whole.all in
@@ -118,19 +123,18 @@ module _ (k : Shape) (ws : List ℕ) (leaves : List (LeafMap (List ℕ))) (keys 
     module _ (rows : List ℕ) (l r : ℕ) (others : (other : ℕ) → other ≢ l → other ≢ r → map_at new other ≡ map_at leaves other) where
       -- a leaf gave its upper half to one that wasn't live
       pub split_stands : has_leaf (anchors_of k ws) l ≡ true → r < length new → 1 < length (map_at leaves l) → IsFreeLeaf k (anchors_of k ws) r → StandsFor k rows (with_split (anchors_of k ws) l (parting (map_at leaves l)) r)
-          → map_at new l ≡ take (stay_count (length (map_at leaves l))) (map_at leaves l) → map_at new r ≡ drop (stay_count (length (map_at leaves l))) (map_at leaves l)
+          → map_at new l ≡ lower_half (map_at leaves l) → map_at new r ≡ upper_half (map_at leaves l)
           → IsLeafTable k rows new keys × IsSplit (table_of k ws leaves) (table_of k rows new) l
       split_stands live place many free stands stay go =
           let A = anchors_of k ws in
           let m = joined A (map_at leaves) in
           let parts = whole.spread.parts l in
           let some : 1 < size_at (table_of k ws leaves) l = subst (λ (p : Pairs (List ℕ)). 1 < length p) parts many in
-          let less = stay_less (length (map_at leaves l)) many in
           let s : AreTable k rows new keys (record { shape = k; anchors = with_split A l (parting (map_at leaves l)) r; map = m }) =
           stands_as k rows new keys (with_split A l (parting (map_at leaves l)) r) m whole.ranges stands (listed_split A l (parting (map_at leaves l)) r (length new) live place still_listed) salts
-          (spread_split A m (map_at leaves) (map_at new) l r whole.stands.anchors whole.spread many free.dead stay go others)
-          (few_split (map_at leaves) (map_at new) k.hard l r whole.few others (stay_count (length (map_at leaves l))) (omega (arith, less)) stay go) whole.all in
-          (s.whole, is_split (table_of k ws leaves) (table_of k rows new) l r whole.stands.anchors whole.spread.ascends some free refl (ap (λ (t : Table). t.anchors) s.is ∙ ap (λ p. with_split A l (parting p) r) parts) (ap (λ (t : Table). t.map) s.is))
+          (spread_split A m (map_at leaves) (map_at new) l r whole.spread many free.dead stay go others)
+          (few_split (map_at leaves) (map_at new) k.hard l r whole.few others stay go) whole.all in
+          (s.whole, is_split (table_of k ws leaves) (table_of k rows new) l r whole.spread.ascends some free refl (ap (λ (t : Table). t.anchors) s.is ∙ ap (λ p. with_split A l (parting p) r) parts) (ap (λ (t : Table). t.map) s.is))
 
       -- a leaf took the keys of the next one
       pub merge_stands : adjacent (anchors_of k ws) l r ≡ true → length (map_at leaves l) + length (map_at leaves r) ≤ k.hard → StandsFor k rows (with_merge (anchors_of k ws) r)
@@ -139,10 +143,11 @@ module _ (k : Shape) (ws : List ℕ) (leaves : List (LeafMap (List ℕ))) (keys 
       merge_stands next room stands taken emptied =
           let A = anchors_of k ws in
           let m = joined A (map_at leaves) in
+          let both : map_at new l ≡ map_at leaves l ++ map_at leaves r = taken ∙ merge_sorted A m (map_at leaves) l r whole.stands.anchors.rises whole.spread next in
           let s : AreTable k rows new keys (record { shape = k; anchors = with_merge A r; map = m }) =
           stands_as k rows new keys (with_merge A r) m whole.ranges stands (listed_merge A r (length new) still_listed) salts
-          (spread_merge A m (map_at leaves) (map_at new) l r whole.stands.anchors whole.spread next taken emptied others)
-          (few_merge (map_at leaves) (map_at new) k.hard l r whole.few others A m whole.stands.anchors whole.spread next room taken emptied) whole.all in
+          (spread_merge A m (map_at leaves) l r whole.stands.anchors.rises whole.spread next (map_at new) both emptied others)
+          (few_merge (map_at leaves) (map_at new) k.hard l r whole.few others room both emptied) whole.all in
           (s.whole, is_merged (table_of k ws leaves) (table_of k rows new) l r whole.stands.anchors whole.spread.ascends next refl (ap (λ (t : Table). t.anchors) s.is) (ap (λ (t : Table). t.map) s.is))
 
   -- a split at the parting anchor can be entered in the rows
@@ -151,7 +156,7 @@ module _ (k : Shape) (ws : List ℕ) (leaves : List (LeafMap (List ℕ))) (keys 
       let A = anchors_of k ws in
       let m = joined A (map_at leaves) in
       let parts = whole.spread.parts l in
-      (A, (whole.stands, subst (λ (p : Pairs (List ℕ)). splits A l (parting p) r ≡ true) (sym parts) (parting_splits A m l r whole.stands.anchors whole.spread.ascends (subst (λ (p : Pairs (List ℕ)). 1 < length p) parts many) dead)))
+      (A, (whole.stands, subst (λ (p : Pairs (List ℕ)). splits A l (parting p) r ≡ true) (sym parts) (parting_splits A m l r whole.spread.ascends (subst (λ (p : Pairs (List ℕ)). 1 < length p) parts many) dead)))
 
   -- and so can a merge
   pub can_merge : (l r : ℕ) → adjacent (anchors_of k ws) l r ≡ true → CanMerge k ws r

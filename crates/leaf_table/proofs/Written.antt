@@ -1,5 +1,5 @@
 -- A table of which one leaf was written.
-use Rattle.std.proofs.Common.{◌≡◌, ◌≢◌, ℕ, zero, suc, ◌+◌, ◌<◌, ◌≤◌, List, [], ◌++◌, length, get_or, take, drop, Bool, true, false, cond, not, is_some, Option, None, IsSome, Result, Ok, Err, ◌⊎◌, inl, inr, ◌-◌, refl, sym, ap, ◌∙◌, subst, arith, true≢false}
+use Rattle.std.proofs.Common.{◌≡◌, ◌≢◌, ℕ, zero, suc, ◌+◌, ◌<◌, ◌≤◌, List, [], ◌++◌, length, get_or, Bool, true, false, cond, not, is_some, Option, None, IsSome, Result, Ok, Err, ◌⊎◌, inl, inr, ◌-◌, refl, sym, ap, ◌∙◌, subst, arith, true≢false}
 use mathlib.Core.Logic.{dite}
 use native.Mathlib.Decide.{ℕ_discrete}
 use Rattle.std.specs.Prelude.{slice_set, OnErr, IfErr}
@@ -10,19 +10,22 @@ use Rattle.key_bytes.specs.Bound.{bound_cmp}
 use Rattle.key_bytes.specs.declared.bound.Bound.{Bound}
 use Rattle.anchor_rules.specs.Anchors.{Anchors, Span, has_leaf, with_split, with_merge, adjacent, target}
 use Rattle.leaf_store.specs.Leaf.{LeafMap}
+use Rattle.map_model.proofs.Filters.{length_keep}
 use Rattle.map_model.specs.Maps.{Pairs, find, with, without, between, is_in, sorted}
 use Rattle.map_model.specs.declared.refusal.TableFull.{TableFull}
 use Rattle.meta_trie.specs.Shrinks.{CanMerge}
 use Rattle.meta_trie.specs.Stands.{StandsFor, IsFreeLeaf, AreLeavesFull, AreItemsFull, CanSplit, anchors_of}
 use Rattle.prefix_search.specs.Search.{IsFollowed}
 use Rattle.row_words.specs.declared.shape.Shape.{Shape}
-use Rattle.leaf_table.specs.Changes.{stay_count, parting, IsSplit, IsMerged, HasNoRoom}
-use Rattle.leaf_table.specs.Facts.{leaf_from, part_end}
+use Rattle.map_model.specs.Halves.{lower_half, upper_half, parting}
+use Rattle.leaf_table.specs.Changes.{IsSplit, IsMerged, HasNoRoom}
+use Rattle.leaf_spans.specs.Ends.{leaf_from, part_end}
 use Rattle.leaf_table.specs.Leaves.{map_at, HaveSalt, table_of, IsLeafTable}
 use Rattle.leaf_table.specs.Table.{Table, pairs_at, size_at}
 use Rattle.leaf_table.proofs.Leaves.{map_read, map_written, map_unwritten, salt_read, salt_written}
-use Rattle.leaf_table.proofs.Merging.{adjacent_live, adjacent_apart, merge_apart}
-use Rattle.leaf_table.proofs.PartEnds.{part_pairs, part_end_above, length_keep}
+use Rattle.anchor_rules.proofs.Neighbours.{adjacent_live, adjacent_apart}
+use Rattle.leaf_spans.proofs.Merging.{merge_apart}
+use Rattle.leaf_spans.proofs.PartEnds.{part_pairs, part_end_above}
 use Rattle.leaf_table.proofs.Standing.{leaf_size}
 use Rattle.leaf_table.proofs.WholeCalls.{AreTable, keys_some, same_stands, set_stands, remove_stands, split_stands, merge_stands, can_split, can_merge}
 
@@ -114,8 +117,8 @@ module _ (k : Shape) (ws : List ℕ) (leaves : List (LeafMap (List ℕ))) (keys 
     -- the leaf gave its upper half away, behind a parting anchor
     halved_is : (rows : List ℕ) (new : List (LeafMap (List ℕ))) (right : ℕ) (anchor : List ℕ) → has_leaf (anchors_of k ws) leaf ≡ true → l.map ≡ old.map → 2 ≤ length old.map → IsFreeLeaf k (anchors_of k ws) right
         → anchor ≡ parting old.map → StandsFor k rows (with_split (anchors_of k ws) leaf anchor right) → right < length new → length (slice_set leaves leaf l) ≤ length new → (HaveSalt (slice_set leaves leaf l) k.salt → HaveSalt new k.salt)
-        → map_at new leaf ≡ take (stay_count (length (map_at (slice_set leaves leaf l) leaf))) (map_at (slice_set leaves leaf l) leaf)
-        → map_at new right ≡ drop (stay_count (length (map_at (slice_set leaves leaf l) leaf))) (map_at (slice_set leaves leaf l) leaf)
+        → map_at new leaf ≡ lower_half (map_at (slice_set leaves leaf l) leaf)
+        → map_at new right ≡ upper_half (map_at (slice_set leaves leaf l) leaf)
         → ((other : ℕ) → other ≢ leaf → other ≢ right → map_at new other ≡ map_at (slice_set leaves leaf l) other)
         → IsLeafTable k rows new keys × IsSplit (table_of k ws leaves) (table_of k rows new) leaf
     halved_is rows new right anchor live same two free by stands place count salts stay go others =
@@ -152,8 +155,8 @@ module _ (k : Shape) (ws : List ℕ) (leaves : List (LeafMap (List ℕ))) (keys 
     -- the leaf is halved
     pub halved : (same_k : Shape) (rows : List ℕ) (new : List (LeafMap (List ℕ))) (right : ℕ) (anchor : List ℕ) → same_k ≡ k → has_leaf t.anchors leaf ≡ true → l.map ≡ old.map → 2 ≤ length old.map → IsFreeLeaf k (anchors_of k ws) right
         → anchor ≡ parting old.map → StandsFor k rows (with_split (anchors_of k ws) leaf anchor right) → right < length new → length (slice_set leaves leaf l) ≤ length new → (HaveSalt (slice_set leaves leaf l) k.salt → HaveSalt new k.salt)
-        → map_at new leaf ≡ take (stay_count (length (map_at (slice_set leaves leaf l) leaf))) (map_at (slice_set leaves leaf l) leaf)
-        → map_at new right ≡ drop (stay_count (length (map_at (slice_set leaves leaf l) leaf))) (map_at (slice_set leaves leaf l) leaf)
+        → map_at new leaf ≡ lower_half (map_at (slice_set leaves leaf l) leaf)
+        → map_at new right ≡ upper_half (map_at (slice_set leaves leaf l) leaf)
         → ((other : ℕ) → other ≢ leaf → other ≢ right → map_at new other ≡ map_at (slice_set leaves leaf l) other)
         → IsLeafTable same_k rows new keys × IsSplit t (table_of same_k rows new) leaf
     halved same_k rows new right anchor e live same two free by stands place count salts stay go others =
@@ -186,7 +189,7 @@ module _ (k : Shape) (ws : List ℕ) (leaves : List (LeafMap (List ℕ))) (keys 
     part_few from upto =
         let few = length_keep (is_in from upto) old.map in
         let here : length old.map ≡ length (map_at leaves leaf) = ap (λ (p : Pairs (List ℕ)). length p) (was_map leaf l old lt was salt) in
-        let all = whole.few leaf in
+        let all : length (map_at leaves leaf) ≤ k.hard = whole.few leaf in
         subst (λ (u : Table). length (between old.map from upto) ≤ u.shape.hard) is (omega (arith, few, here, all))
 
   -- the least leaf that isn't live has its place, or is the next one to get one

@@ -1,27 +1,10 @@
 -- How anchors change while the map stays.
-use Rattle.std.specs.Prelude.{ℕ, ◌≡◌, ◌≢◌, ◌+◌, ◌-◌, ◌/◌, List, [], length, take, slice_index_or, true, ◌⊎◌}
-use Rattle.key_bytes.specs.Common.{lcp}
+use Rattle.std.specs.Prelude.{ℕ, ◌≡◌, ◌≢◌, ◌+◌, ◌-◌, true, ◌⊎◌}
 use Rattle.anchor_rules.specs.Anchors.{splits, with_split, adjacent, with_merge}
-use Rattle.map_model.specs.Maps.{Pairs}
+use Rattle.map_model.specs.Halves.{stay_count, parting}
 use Rattle.map_model.specs.declared.refusal.TableFull.{TableFull}
 use Rattle.meta_trie.specs.Stands.{IsFreeLeaf, AreLeavesFull, AreItemsFull}
 use Rattle.leaf_table.specs.Table.{Table, pairs_at, size_at}
-
--- how many of so many keys stay where a leaf is split: the lower half, and the greater one
-abbrev pub stay_count : ℕ → ℕ
-stay_count n = (n + 1) / 2
-
--- the key at a place
-abbrev pub key_at : Pairs (List ℕ) → ℕ → List ℕ
-key_at pairs i = (slice_index_or pairs i ([], [])).0
-
--- the shortest beginning of one key that is above another
-abbrev pub between_keys : List ℕ → List ℕ → List ℕ
-between_keys low high = take (lcp low high + 1) high
-
--- the anchor that parts the keys which go from those which stay
-abbrev pub parting : Pairs (List ℕ) → List ℕ
-parting pairs = between_keys (key_at pairs (stay_count (length pairs) - 1)) (key_at pairs (stay_count (length pairs)))
 
 -- The leaf's upper half went to the least leaf that wasn't live, behind the anchor that parts the halves.
 pub record IsSplit (old new : Table) (leaf : ℕ) : Type 0 where

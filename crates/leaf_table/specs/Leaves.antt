@@ -1,13 +1,14 @@
 -- What holds of the rows and the leaves of a table.
-use Rattle.std.specs.Prelude.{◌≡◌, ℕ, ◌<◌, ◌≤◌, List, [], length, true, slice_index_or}
+use Rattle.std.specs.Prelude.{◌≡◌, ℕ, ◌<◌, List, [], length, true, slice_index_or}
 use Rattle.std.specs.List.{All}
 use Rattle.anchor_rules.specs.Anchors.{Anchors, has_leaf}
+use Rattle.leaf_spans.specs.Counting.{AreFew}
 use Rattle.leaf_store.specs.Leaf.{LeafMap}
 use Rattle.map_model.specs.Maps.{Pairs}
 use Rattle.meta_trie.specs.Stands.{StandsFor, anchors_of}
 use Rattle.row_words.specs.declared.shape.Shape.{Shape}
 use Rattle.row_words.specs.Shape.{IsShape}
-use Rattle.leaf_table.specs.Spread.{Spread, joined}
+use Rattle.leaf_spans.specs.Spread.{Spread, joined}
 use Rattle.leaf_table.specs.Table.{Table}
 
 -- what is read past the last leaf: no pairs
@@ -38,7 +39,7 @@ pub record IsLeafTable (k : Shape) (ws : List ℕ) (leaves : List (LeafMap (List
   pub listed : AreListed (anchors_of k ws) (length leaves)
   pub salts : HaveSalt leaves k.salt
   pub spread : Spread (anchors_of k ws) (joined (anchors_of k ws) (map_at leaves)) (map_at leaves)
-  pub few : (leaf : ℕ) → length (map_at leaves leaf) ≤ k.hard
+  pub few : AreFew (λ leaf. length (map_at leaves leaf)) k.hard
   pub all : keys ≡ length (joined (anchors_of k ws) (map_at leaves))
 
 -- all leaves below a number are live

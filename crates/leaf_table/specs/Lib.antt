@@ -1,6 +1,5 @@
 pub mod Table
 pub mod Changes
-pub mod Spread
 pub mod Leaves
 pub mod Facts
 pub mod Places

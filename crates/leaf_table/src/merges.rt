@@ -52,12 +52,12 @@ fn join(
     ensures capacity { vec_capacity leaves.new ≡ vec_capacity leaves.old }
     ensures salts { (salt : ℕ) → HaveSalt leaves.old.items salt → empty.salt ≡ salt → HaveSalt leaves.new.items salt }
 {
-    let mut taken = mem::replace(&mut leaves[right], empty);
-    match leaves[left].absorb(&mut taken) {
+    let taken = mem::replace(&mut leaves[right], empty);
+    match leaves[left].join(taken) {
         Ok(()) => Ok(()),
-        Err(refused) => {
-            leaves[right] = taken;
-            Err(refused)
+        Err(back) => {
+            leaves[right] = back;
+            Err(AllocError)
         }
     }
 }

@@ -6,14 +6,13 @@ ghost use Rattle.map_model.specs.Maps.{between};
 ghost use Rattle.row_words.specs.VecRows.{shape_of, words_of};
 ghost use Rattle.meta_trie.specs.Stands.{StandsFor, anchors_of};
 ghost use Rattle.prefix_search.specs.Search.{IsFollowed};
-ghost use Rattle.leaf_table.specs.Facts.{leaf_from, lesser, part_end};
-ghost use Rattle.leaf_table.specs.Spread.{end_bound};
+ghost use Rattle.leaf_spans.specs.Ends.{leaf_from, lesser, part_end, end_bound};
 
 use crate::LeafTable;
 use key_bytes::{Bound, Bytes, Key};
 use leaf_store::Leaf;
 use map_model::Page;
-use prefix_search::{Located, at_leaf, locate};
+use prefix_search::{Located, locate_end};
 use row_words::{AnchorWords, VecRows};
 use std::alloc::{AllocError, Global};
 use std::cmp::Ordering;
@@ -35,15 +34,15 @@ impl LeafTable {
         ensures same { self.new ≡ self.old }
     {
         page.clear();
-        let located = locate_end::<Brand>(&mut self.rows, from, Blank::new(1));
+        let located = locate_from::<Brand>(&mut self.rows, from, Blank::new(1));
         let upto = lower_end(self.alloc, located.next, to)?;
         fill(&mut self.leaves[located.leaf as usize], from, &upto, page)?;
         Ok(upto)
     }
 }
 
-// The leaf from which on keys from an end on are found.
-fn locate_end<L: Ledger>(rows: &mut VecRows, from: &Bound, blank: Blank) -> Located
+// The leaf from which on keys from an end on are found, with a counter for the steps of the search.
+fn locate_from<L: Ledger>(rows: &mut VecRows, from: &Bound, blank: Blank) -> Located
     requires name { blank.name ≡ L.name }
     requires parts { blank.parts ≡ L.parts }
     requires some { 0 < blank.parts }
@@ -54,10 +53,7 @@ fn locate_end<L: Ledger>(rows: &mut VecRows, from: &Bound, blank: Blank) -> Loca
     ensures shape { shape_of rows.new ≡ shape_of rows.old }
 {
     let mut steps = Steps::<L>::new(blank);
-    match from {
-        Bound::At(key) => locate(rows, key, &mut steps),
-        _ => at_leaf(rows, 0, &mut steps),
-    }
+    locate_end(rows, from, &mut steps)
 }
 
 // The key at an anchor that isn't empty.

@@ -1,14 +1,15 @@
 //! Splitting a leaf.
 
-ghost use Rattle.std.specs.Prelude.{ℕ, ◌≡◌, ◌≢◌, ◌<◌, ◌≤◌, [], length, take, drop, true, IfOk, IfErr, OnOk, OnErr, vec_capacity};
+ghost use Rattle.std.specs.Prelude.{ℕ, ◌≡◌, ◌≢◌, ◌<◌, ◌≤◌, [], length, true, IfOk, IfErr, OnOk, OnErr, vec_capacity};
 ghost use Rattle.anchor_rules.specs.Anchors.{has_leaf};
-ghost use Rattle.leaf_table.specs.Changes.{IsSplit, parting, stay_count};
+ghost use Rattle.map_model.specs.Halves.{lower_half, upper_half, parting, stay_count};
+ghost use Rattle.leaf_table.specs.Changes.{IsSplit};
 ghost use Rattle.leaf_table.specs.Facts.{IsSplitFault};
 ghost use Rattle.leaf_table.specs.Leaves.{map_at, HaveSalt};
 ghost use Rattle.leaf_table.specs.Table.{size_at};
 
 use crate::{LeafTable, SplitFault};
-use key_bytes::{Bound, Bytes, Key, separator};
+use key_bytes::{Bytes, Key};
 use leaf_store::Leaf;
 use meta_trie::{add_anchor, free_leaf_from};
 use row_words::RowsMut;
@@ -63,11 +64,9 @@ fn part_of(alloc: Global, leaf: &mut Leaf<Bytes>, salt: u64) -> Result<Parting, 
     ensures salted { IfOk result (λ p. p.room.salt ≡ salt) }
     ensures room { IfOk result (λ p. stay_count (length leaf.old.map) ≤ p.room.spare) }
 {
-    leaf.pairs_between(&Bound::Low, &Bound::High)?;
-    let stay = leaf.len() - leaf.len() / 2;
-    let anchor = separator(alloc, leaf.at(stay - 1).0, leaf.at(stay).0)?;
+    let anchor = leaf.parting(alloc)?;
     let mut room = Leaf::new(alloc, salt);
-    room.reserve(stay)?;
+    room.reserve(leaf.len() - leaf.len() / 2)?;
     Ok(Parting { anchor, room })
 }
 
@@ -81,8 +80,8 @@ fn halve(leaves: &mut Vec<Leaf<Bytes>>, left: usize, right: usize, room: Leaf<By
     requires empty { room.map ≡ [] }
     requires salted { HaveSalt leaves.old.items room.salt }
     requires room { stay_count (length (map_at leaves.old.items left)) ≤ room.spare }
-    ensures stay { map_at leaves.new.items left ≡ take (stay_count (length (map_at leaves.old.items left))) (map_at leaves.old.items left) }
-    ensures go { map_at leaves.new.items right ≡ drop (stay_count (length (map_at leaves.old.items left))) (map_at leaves.old.items left) }
+    ensures stay { map_at leaves.new.items left ≡ lower_half (map_at leaves.old.items left) }
+    ensures go { map_at leaves.new.items right ≡ upper_half (map_at leaves.old.items left) }
     ensures others { (other : ℕ) → other ≢ left → other ≢ right → map_at leaves.new.items other ≡ map_at leaves.old.items other }
     ensures listed { right < length leaves.new.items }
     ensures kept { length leaves.old.items ≤ length leaves.new.items }

@@ -1,5 +1,5 @@
 -- Where a history fits, there is room for its next put.
-use Rattle.std.proofs.Common.{◌≡◌, ◌≢◌, ℕ, ◌+◌, ◌-◌, ◌*◌, ◌/◌, ◌<◌, ◌≤◌, List, [], ◌∷◌, ◌++◌, length, length-append, cond, Bool, true, false, Some, None, Option, is_some, refl, sym, ap, ◌∙◌, subst, arith, suc, zero, inl, inr, eqb, eqb-true}
+use Rattle.std.proofs.Common.{◌≡◌, ◌≢◌, ℕ, ◌+◌, ◌-◌, ◌*◌, ◌/◌, ◌<◌, ◌≤◌, List, [], ◌∷◌, ◌++◌, length, length-append, cond, Bool, true, false, Some, None, Option, is_some, refl, sym, ap, ◌∙◌, subst, arith, suc, zero, inl, inr, eqb, eqb-true, Err}
 use mathlib.Core.Bool.{false≢true}
 use Rattle.std.proofs.lemmas.Nat.{le-div}
 use Rattle.std.proofs.Math.Nat.{mul-le-mul_right}
@@ -8,14 +8,15 @@ use Rattle.anchor_rules.specs.Items.{longest_anchor}
 use Rattle.anchor_rules.specs.Tally.{Tally, excess, sizes_of}
 use Rattle.anchor_rules.proofs.Parts.{around}
 use Rattle.anchor_rules.proofs.Spans.{span_later}
-use Rattle.anchor_rules.proofs.Tallies.{excess_append}
+use Rattle.anchor_rules.proofs.Tallies.{excess_append, tally_looser}
 use Rattle.map_model.specs.Maps.{Pairs, IsMap}
 use Rattle.map_model.specs.History.{Entry, after}
 use Rattle.map_model.specs.declared.refusal.TableFull.{TableFull}
 use Rattle.map_model.specs.declared.refusal.TableFull.TheVariants.{Leaves, Items, Versions}
 use Rattle.meta_trie.specs.Stands.{AreLeavesFull, AreItemsFull, new_count, fresh_count, prefix_count}
 use Rattle.leaf_table.specs.Table.{Table, size_at, pairs_at}
-use Rattle.leaf_table.specs.Changes.{HasNoRoom, parting}
+use Rattle.map_model.specs.Halves.{parting}
+use Rattle.leaf_table.specs.Changes.{HasNoRoom}
 use Rattle.history_sizes.specs.Sizes.{new_keys, longest_new}
 use Rattle.history_sizes.proofs.Bounds.{length_after, keys_after, NoLonger, no_longer_weaker}
 use Rattle.history_sizes.proofs.Rising.{new_keys-longer, longest_new-longer}
@@ -26,12 +27,10 @@ use Rattle.leaf_table.specs.Facts.{IsWhole}
 use Rattle.map_model.specs.Refusals.{NotFull}
 use Rattle.map_model.specs.declared.refusal.Refusal.{Refusal}
 use Rattle.map_model.specs.declared.refusal.Refusal.TheVariants as refusals
-use Rattle.std.proofs.Common.{Err}
-use Rattle.leaf_table.proofs.Spreads.{target_live}
+use Rattle.leaf_spans.proofs.Spreads.{target_live}
 use Rattle.map_model.specs.declared.refusal.Full.{Full}
 use Rattle.map_model.specs.declared.refusal.Full.TheVariants.{Values, Crowded}
-use Rattle.solo_index.proofs.Bounded.{tally_looser}
-use Rattle.leaf_table.proofs.Splitting.{parting_short}
+use Rattle.leaf_spans.proofs.Halving.{parting_short}
 
 -- there are fewer keys than there may be
 pub no_values : (t : Table) (h more : List Entry) → Stands t h → Fits t.shape (h ++ more) → HasAllValues t → ⊥

@@ -14,7 +14,8 @@ use Rattle.map_model.specs.declared.refusal.Refusal.{Refusal}
 use Rattle.map_model.specs.declared.refusal.Refusal.TheVariants as refusals
 use Rattle.row_words.specs.declared.shape.Shape.{Shape}
 use Rattle.leaf_table.specs.Table.{Table, size_at, pairs_at}
-use Rattle.leaf_table.specs.Changes.{IsSplit, IsMerged, parting}
+use Rattle.map_model.specs.Halves.{parting}
+use Rattle.leaf_table.specs.Changes.{IsSplit, IsMerged}
 use Rattle.history_sizes.specs.Sizes.{is_new, new_keys, longest_new}
 use Rattle.history_sizes.proofs.Bounds.{NoLonger, keys_after}
 use Rattle.history_sizes.proofs.Rising.{new_keys-push, new_keys-longer, longest_new-longer}
@@ -23,10 +24,10 @@ use Rattle.solo_index.specs.declared.tending.Tended.TheVariants as tended
 use Rattle.solo_index.specs.declared.tending.Put as puts
 use Rattle.solo_index.specs.declared.tending.Taken.{Taken}
 use Rattle.solo_index.specs.Standing.{IsBounded, Stands}
-use Rattle.solo_index.specs.Tending.{leaf_of, HasMap, TendsLarge, Opens, IsPut, CanMerge, AreMergeable, TendsSmall, IsTaken}
+use Rattle.solo_index.specs.Tending.{leaf_of, HasMap, TendsLarge, Opens, IsPut, IsPair, TendsSmall, TendsTaken, IsTaken}
 use Rattle.solo_index.specs.Causes.{RefusesPut}
 use Rattle.solo_index.proofs.Bounded.{bounded_looser, bounded_new, bounded_set, bounded_gone, bounded_split, bounded_merge}
-use Rattle.leaf_table.proofs.Splitting.{parting_short}
+use Rattle.leaf_spans.proofs.Halving.{parting_short}
 
 -- a call goes behind each history, where the bounds hold with it
 pub enters_last : (t u : Table) (call : Call) (reply : Reply) → u.map ≡ map_after t.map call → reply ≡ answer_of t.map call
@@ -192,9 +193,9 @@ refused_shape t u key refusals.NoMemory r = elim r.1 [
   | inr opens ↦ elim opens [ inl split ↦ split.1.shape | inr same ↦ ap (λ (x : Table). x.shape) same.1 ]
 ]
 
--- the two that are merged are neighbours with few enough keys
-pub mergeable : (t : Table) (leaf left right : ℕ) → AreMergeable t leaf left right → CanMerge t left right
-mergeable t leaf left right can = elim can [ inl to_right ↦ to_right.1 | inr to_left ↦ to_left.2 ]
+-- the two that are merged have few enough keys
+pair_small : (t : Table) (leaf left right : ℕ) → IsPair t leaf left right → size_at t left + size_at t right ≤ t.shape.merge_sum
+pair_small t leaf left right pair = elim pair [ inl to_right ↦ to_right.1.small | inr to_left ↦ to_left.2.small ]
 
 module _ (t u : Table) (are : AreAnchors t.anchors) (up : IsMap t.map) (few : t.shape.merge_sum ≤ t.shape.soft / 2) (key : List ℕ) (taken : Taken) (is : IsTaken t u key taken) where
   record IsTended : Type 0 where
@@ -202,35 +203,36 @@ module _ (t u : Table) (are : AreAnchors t.anchors) (up : IsMap t.map) (few : t.
     shape : u.shape ≡ is.written.shape
     bounded : (p l : ℕ) → IsBounded is.written p l → IsBounded u p l
 
+  still : u ≡ is.written → IsTended
+  still e = record { map = ap (λ (x : Table). x.map) e; shape = ap (λ (x : Table). x.shape) e; bounded = λ p l b. subst (λ (x : Table). IsBounded x p l) (sym e) b }
+
   tended_small : (did : Tended) → TendsSmall is.written u (leaf_of is.written key) did → IsTended
   tended_small tended.Nothing w = still w.1
-    where
-      still : u ≡ is.written → IsTended
-      still e = record { map = ap (λ (x : Table). x.map) e; shape = ap (λ (x : Table). x.shape) e; bounded = λ p l b. subst (λ (x : Table). IsBounded x p l) (sym e) b }
   tended_small tended.Split w = absurd w
   tended_small (tended.Refused why) w = absurd w
   tended_small tended.Merged w =
       let merged : IsMerged is.written u w.0 w.1 = w.3 in
-      let can = mergeable is.written (leaf_of is.written key) w.0 w.1 w.2 in
+      let small = pair_small is.written (leaf_of is.written key) w.0 w.1 w.2 in
       record {
         map = merged.map;
         shape = merged.shape;
         bounded = λ p l b. bounded_merge is.written u w.0 w.1 p l (subst AreAnchors (sym is.writes.anchors) are) merged
-            (let s = can.small in omega (arith, ap (λ (k : Shape). k.soft / 2) is.writes.shape, ap (λ (k : Shape). k.merge_sum) is.writes.shape)) b;
+            (omega (arith, small, ap (λ (k : Shape). k.soft / 2) is.writes.shape, ap (λ (k : Shape). k.merge_sum) is.writes.shape)) b;
       }
   tended_small tended.NoMemory w = still w.1
-    where
-      still : u ≡ is.written → IsTended
-      still e = record { map = ap (λ (x : Table). x.map) e; shape = ap (λ (x : Table). x.shape) e; bounded = λ p l b. subst (λ (x : Table). IsBounded x p l) (sym e) b }
+
+  tended_taken : (gone : Bool) (did : Tended) → TendsTaken gone is.written u (leaf_of is.written key) did → IsTended
+  tended_taken true did w = tended_small did w
+  tended_taken false did w = still w.1
 
   -- an answered del
   pub taken_enters : Follows (Stands t) (Stands u) (Enters 0 true (Del key) (was_gone taken.gone))
   taken_enters =
-      let done = tended_small taken.tended is.tends in
+      let done = tended_taken taken.gone taken.tended is.tends in
       enters t u (Del key) (was_gone taken.gone) (done.map ∙ is.writes.now) (taken_reply (find t.map key) taken.gone is.was_there) (λ h s after_is legal.
       let e : Entry = entry_of 0 h (Del key) (was_gone taken.gone) in
       let b = done.bounded (new_keys h) (longest_new h) (bounded_gone t is.written are up key (new_keys h) (longest_new h) s.bounded is.writes) in
       bounded_looser u _ _ _ _ (new_keys-longer h (e ∷ [])) (longest_new-longer h (e ∷ [])) b)
 
   pub taken_shape : u.shape ≡ t.shape
-  taken_shape = let done = tended_small taken.tended is.tends in done.shape ∙ is.writes.shape
+  taken_shape = let done = tended_taken taken.gone taken.tended is.tends in done.shape ∙ is.writes.shape

@@ -9,7 +9,7 @@ ghost use Rattle.leaf_table.specs.Table.{size_at};
 ghost use Rattle.solo_index.specs.Tending.{Opens, IsPut, IsTaken};
 ghost use Rattle.solo_index.specs.Causes.{RefusesPut, LeavesCrowded};
 
-use crate::tending::{Put, Taken, tend_large, tend_small};
+use crate::tending::{Put, Taken, Tended, tend_large, tend_small};
 use key_bytes::Key;
 use leaf_table::{LeafTable, Place, SplitFault};
 use map_model::{Full, Refusal};
@@ -58,14 +58,19 @@ fn open_leaf(table: &mut LeafTable, key: &Key) -> Result<Place, Refusal>
     }
 }
 
-/// Takes a key out, and tends its leaf.
+/// Takes a key out, and tends its leaf if the key was there.
 pub(crate) fn take_key(table: &mut LeafTable, key: &Key) -> Taken
     ensures taken { IsTaken table.old table.new key.now result }
     ensures whole { IsWhole table.old }
 {
     let _ = table.shape();
     let place = table.place_of(key);
-    let gone = table.remove(place, key);
+    if !table.remove(place, key) {
+        return Taken {
+            gone: false,
+            tended: Tended::Nothing,
+        };
+    }
     let tended = tend_small(table, place.leaf);
-    Taken { gone, tended }
+    Taken { gone: true, tended }
 }

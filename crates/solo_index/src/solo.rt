@@ -7,7 +7,8 @@ ghost use Rattle.map_model.specs.History.{Entry, after, entry_of};
 ghost use Rattle.map_model.specs.Maps.{find, between};
 ghost use Rattle.map_model.specs.Ordered.{Follows, Enters, Stays, was_put, was_gone};
 ghost use Rattle.map_model.specs.Refusals.{HasCause, refusal_of, NotAgain, NotFull};
-ghost use Rattle.leaf_table.specs.Facts.{IsWhole, IsMakeFault, part_end};
+ghost use Rattle.leaf_spans.specs.Ends.{part_end};
+ghost use Rattle.leaf_table.specs.Facts.{IsWhole, IsMakeFault};
 ghost use Rattle.solo_index.specs.Standing.{Store, Stands, Fits};
 ghost use Rattle.solo_index.specs.declared.tending.Put.{Put as Done};
 ghost use Rattle.solo_index.specs.declared.tending.Taken.{Taken as Gone};
@@ -140,8 +141,8 @@ impl Solo {
         }
     }
 
-    /// Takes the key out, and tends the key's leaf: it is merged with a neighbour where both together
-    /// have few enough keys, with the right one if that will do.
+    /// Takes the key out, and tends the key's leaf if the key was there: it is merged with a neighbour
+    /// where both together have few enough keys, with the right one if that will do.
     pub fn take_key(&mut self, key: &Key) -> Taken
         ensures taken { IsTaken self.old.table self.new.table key.now result }
         ensures counted { (self.new.refusals ≡ self.old.refusals) × (self.new.last ≡ self.old.last) }

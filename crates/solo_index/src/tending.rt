@@ -1,12 +1,15 @@
 //! What is done about a leaf's size behind a change of its keys.
 
-ghost use Rattle.std.specs.Prelude.{ℕ, ◌≡◌, ◌+◌, ◌≤◌, true, MatchOption};
+ghost use Rattle.std.specs.Prelude.{ℕ, ◌≡◌, ◌+◌, ◌<◌, ◌≤◌, true, MatchOption};
+ghost use Rattle.std.specs.Option.{option_map};
 ghost use Rattle.anchor_rules.specs.Anchors.{has_leaf};
-ghost use Rattle.leaf_table.specs.Facts.{IsBefore, IsBehind};
+ghost use Rattle.leaf_spans.specs.Tending.{IsLarge};
+ghost use Rattle.leaf_table.specs.Facts.{AreBeside};
 ghost use Rattle.leaf_table.specs.Table.{size_at};
-ghost use Rattle.solo_index.specs.Tending.{CanMerge, AreMergeable, TendsLarge, TendsSmall};
+ghost use Rattle.solo_index.specs.Tending.{IsPair, TendsLarge, TendsSmall, pair_on};
 
-use leaf_table::{LeafTable, SplitFault};
+use leaf_spans::{Side, Wanted, partner, wish};
+use leaf_table::{LeafTable, Neighbours, SplitFault};
 use map_model::TableFull;
 
 /// What was done about the size of a leaf.
@@ -47,10 +50,20 @@ pub(crate) fn tend_large(table: &mut LeafTable, leaf: u32) -> Tended
     requires { has_leaf table.old.anchors leaf ≡ true }
     ensures { TendsLarge table.old table.new leaf result }
 {
-    let soft = table.shape().soft;
-    if table.size(leaf) <= soft as usize {
-        return Tended::Nothing;
+    let shape = table.shape();
+    match wish(table.size(leaf), shape.soft, shape.merge_sum) {
+        Wanted::Split => split(table, leaf),
+        _ => Tended::Nothing,
     }
+}
+
+// Splits a leaf, where the table has room.
+fn split(table: &mut LeafTable, leaf: u32) -> Tended
+    requires live { has_leaf table.old.anchors leaf ≡ true }
+    requires large { IsLarge (size_at table.old) table.old.shape.soft leaf }
+    requires some { 0 < table.old.shape.soft }
+    ensures { TendsLarge table.old table.new leaf result }
+{
     match table.split(leaf) {
         Ok(()) => Tended::Split,
         Err(SplitFault::Table(why)) => Tended::Refused(why),
@@ -76,59 +89,54 @@ pub(crate) fn tend_small(table: &mut LeafTable, leaf: u32) -> Tended
 // The two leaves that are to be merged for a leaf's sake, the left one first.
 fn mergeable(table: &mut LeafTable, leaf: u32) -> Option<(u32, u32)>
     requires { has_leaf table.old.anchors leaf ≡ true }
-    ensures pair { MatchOption result ((left right : ℕ) → AreMergeable table.old leaf left right → ⊥)
-        (λ pair. AreMergeable table.old leaf pair.0 pair.1) }
+    ensures pair { MatchOption result ((left right : ℕ) → IsPair table.old leaf left right → ⊥)
+        (λ pair. IsPair table.old leaf pair.0 pair.1) }
     ensures few { MatchOption result (Unit {0}) (λ pair. size_at table.old pair.0 + size_at table.old pair.1 ≤ table.old.shape.hard) }
     ensures same { table.new ≡ table.old }
 {
-    let most = table.shape().merge_sum as usize;
-    if table.size(leaf) > most {
-        return None;
+    let shape = table.shape();
+    match wish(table.size(leaf), shape.soft, shape.merge_sum) {
+        Wanted::Merge => {
+            let beside = table.neighbours(leaf);
+            pair(table, leaf, beside)
+        }
+        _ => None,
     }
-    let beside = table.neighbours(leaf);
-    if let Some(right) = right_partner(table, leaf, beside.right) {
-        return Some((leaf, right));
-    }
-    match left_partner(table, leaf, beside.left) {
-        Some(left) => Some((left, leaf)),
+}
+
+// A leaf with few keys and the neighbour with which it is to be merged, the left one first.
+fn pair(table: &LeafTable, leaf: u32, beside: Neighbours) -> Option<(u32, u32)>
+    requires live { has_leaf table.now.anchors leaf ≡ true }
+    requires beside { AreBeside table.now.anchors leaf beside }
+    ensures pair { MatchOption result ((left right : ℕ) → IsPair table.now leaf left right → ⊥)
+        (λ pair. IsPair table.now leaf pair.0 pair.1) }
+    ensures few { MatchOption result (Unit {0}) (λ pair. size_at table.now pair.0 + size_at table.now pair.1 ≤ table.now.shape.hard) }
+{
+    let merge_sum = table.shape().merge_sum;
+    let left = size_of(table, beside.left);
+    let right = size_of(table, beside.right);
+    let side = partner(table.size(leaf), merge_sum, left, right);
+    on_side(leaf, beside, side)
+}
+
+// How many keys a leaf has, if there is one.
+fn size_of(table: &LeafTable, leaf: Option<u32>) -> Option<usize>
+    requires { MatchOption leaf (Unit {0}) (λ leaf. has_leaf table.now.anchors leaf ≡ true) }
+    ensures { result ≡ option_map (size_at table.now) leaf }
+{
+    match leaf {
+        Some(leaf) => Some(table.size(leaf)),
         None => None,
     }
 }
 
-// A leaf's right neighbour, where both together have few enough keys to be merged.
-fn right_partner(table: &LeafTable, leaf: u32, right: Option<u32>) -> Option<u32>
-    requires live { has_leaf table.now.anchors leaf ≡ true }
-    requires behind { IsBehind table.now.anchors leaf right }
-    ensures { MatchOption result ((other : ℕ) → CanMerge table.now leaf other → ⊥) (λ right. CanMerge table.now leaf right) }
+// A leaf and its neighbour on a side, the left one first.
+fn on_side(leaf: u32, beside: Neighbours, side: Option<Side>) -> Option<(u32, u32)>
+    ensures { result ≡ pair_on leaf beside.left beside.right side }
 {
-    let most = table.shape().merge_sum as usize;
-    match right {
-        Some(right) => {
-            if table.size(leaf) + table.size(right) <= most {
-                Some(right)
-            } else {
-                None
-            }
-        }
-        None => None,
-    }
-}
-
-// A leaf's left neighbour, where both together have few enough keys to be merged.
-fn left_partner(table: &LeafTable, leaf: u32, left: Option<u32>) -> Option<u32>
-    requires live { has_leaf table.now.anchors leaf ≡ true }
-    requires before { IsBefore table.now.anchors leaf left }
-    ensures { MatchOption result ((other : ℕ) → CanMerge table.now other leaf → ⊥) (λ left. CanMerge table.now left leaf) }
-{
-    let most = table.shape().merge_sum as usize;
-    match left {
-        Some(left) => {
-            if table.size(left) + table.size(leaf) <= most {
-                Some(left)
-            } else {
-                None
-            }
-        }
-        None => None,
+    match (side, beside.left, beside.right) {
+        (Some(Side::Right), _, Some(right)) => Some((leaf, right)),
+        (Some(Side::Left), Some(left), _) => Some((left, leaf)),
+        _ => None,
     }
 }

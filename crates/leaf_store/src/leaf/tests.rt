@@ -182,16 +182,3 @@ fn tag_of_the_key_a(rt: HostRuntime) -> Result<(), Fail> {
     assert_eq!(rt; leaf.tags().find(44_899, |_| true), Some(0));
     Ok(())
 }
-
-fn is_send<T: Send>(_value: &T) {}
-
-fn leaf_is_send<V: Send>(leaf: &Leaf<V>) {
-    is_send(leaf);
-}
-
-// A leaf may go to another thread, where its values may.
-#[test]
-fn leaves_are_send(rt: HostRuntime) -> Result<(), Fail> {
-    leaf_is_send(&Leaf::<u32>::new(rt.alloc(), 0));
-    Ok(())
-}

@@ -1,4 +1,4 @@
 use Rattle.leaf_table.proofs.table.LeafTable.part.Given as goal
 
-abbrev pub ghosts-locate_end : goal.ghosts-locate_end
-ghosts-locate_end a = record { name = a.blank.name; parts = a.blank.parts }
+abbrev pub ghosts-locate_from : goal.ghosts-locate_from
+ghosts-locate_from a = record { name = a.blank.name; parts = a.blank.parts }
