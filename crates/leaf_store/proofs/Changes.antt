@@ -1,8 +1,9 @@
 -- The changes of a leaf.
-use Rattle.std.proofs.Common.{◌≡◌, ℕ, zero, suc, ◌-◌, ◌<◌, ◌≤◌, List, [], ◌∷◌, ◌++◌, Bool, true, false, Some, None, Option, refl, sym, ap, ◌∙◌, subst, length, get_or, set, arith, inl, inr, min, cond, not, ◌⊎◌, IsSome, is_some, true≢false}
+use Rattle.std.proofs.Common.{◌≡◌, ℕ, zero, suc, ◌+◌, ◌-◌, ◌<◌, ◌≤◌, List, [], ◌∷◌, ◌++◌, Bool, true, false, Some, None, Option, refl, sym, ap, ◌∙◌, subst, length, length-append, get_or, set, arith, inl, inr, min, cond, not, ◌⊎◌, IsSome, is_some, true≢false}
 use Rattle.std.specs.List.{AllByRecursion, Contains, swap_remove}
-use Rattle.std.specs.List.Sorted.{IsPermutation}
+use Rattle.std.specs.List.Sorted.{IsPermutation, IsSortedBy}
 use Rattle.std.proofs.Math.ListN.{length-set}
+use Rattle.std.proofs.lemmas.List.Sorted.{IsPermutation-swap_remove, length_permutation}
 use Rattle.key_bytes.specs.Order.{is_below, is_same}
 use Rattle.key_bytes.specs.Fnv.{prefix_hash}
 use Rattle.leaf_store.specs.Tag.{first_bits, tag_of}
@@ -12,6 +13,7 @@ use Rattle.key_bytes.proofs.Orders.{same_is}
 use Rattle.map_model.proofs.Finds.{find_sorted, find_without, same_map, ascending_keep}
 use Rattle.leaf_store.specs.Leaf.{LeafMap}
 use Rattle.leaf_store.specs.Lent.{with_value}
+use Rattle.leaf_store.specs.Order.{ArePlaces}
 use Rattle.leaf_store.specs.Rows.{AreTags, AreOnce, IsLeaf}
 use Rattle.leaf_store.proofs.Unsorted.{find_at, once_set, sorted_set, once_added, sorted_added, once_swap_remove, sorted_swap_remove}
 use Rattle.leaf_store.proofs.Tagged.{tag_row, none_tagged, tags_added, tags_set}
@@ -79,7 +81,7 @@ module _ {V : Type 0} where
   pub taken_tag : (salt : ℕ) (rows : Pairs V) (place : ℕ) (key : List ℕ) (tag : ℕ) → tag ≡ tag_of salt key → ((d : List ℕ × V) → is_same (get_or rows place d).0 key ≡ true) → (d : List ℕ × V) → tag ≡ tag_of salt (get_or rows place d).0
   taken_tag salt rows place key tag e is d = e ∙ ap (tag_of salt) (sym (same_is (get_or rows place d).0 key (is d)))
 
-module _ {V : Type 0} (salt : ℕ) (rows : Pairs V) (pairs : List (ℕ × ℕ)) (ordered : Bool) (leaf : IsLeaf salt rows pairs ordered) where
+module _ {V : Type 0} (salt : ℕ) (rows : Pairs V) (pairs : List (ℕ × ℕ)) (order : List ℕ) (ordered : Bool) (leaf : IsLeaf salt rows pairs order ordered) where
   -- a tag leads to a row
   pub tagged : (tag place : ℕ) → Contains pairs (tag, place) → place < length rows
   tagged tag place has = tag_row salt rows pairs leaf.tags tag place has
@@ -97,12 +99,20 @@ module _ {V : Type 0} (salt : ℕ) (rows : Pairs V) (pairs : List (ℕ × ℕ)) 
         let h : find rows (get_or rows i x).0 ≡ Some (get_or rows i x).1 = find_at rows i x leaf.keys lt in
         find_sorted rows key ∙ (ap (find rows) (sym has_key) ∙ subst (λ (p : List ℕ × V). find rows p.0 ≡ Some p.1) (sym read) h)
 
-    pub written_leaf : (v : V) → IsLeaf salt (set rows i (x.0, v)) pairs ordered
-    written_leaf v = record {
-      keys = once_set rows i x leaf.keys lt read v;
-      tags = tags_set salt rows pairs leaf.tags i (x.0, v) x lt (sym (ap (λ (p : List ℕ × V). p.0) read));
-      order = λ t. ascending_set rows i (x.0, v) x lt (sym (ap (λ (p : List ℕ × V). p.0) read)) (leaf.order t);
-    }
+    pub written_leaf : (v : V) → IsLeaf salt (set rows i (x.0, v)) pairs order ordered
+    written_leaf v =
+        let key_kept : (get_or rows i x).0 ≡ x.0 = sym (ap (λ (p : List ℕ × V). p.0) read) in
+        let size : length (set rows i (x.0, v)) ≡ length rows = length-set rows i (x.0, v) in
+        record {
+          keys = once_set rows i x leaf.keys lt read v;
+          tags = tags_set salt rows pairs leaf.tags i (x.0, v) x lt key_kept;
+          places = leaf.places;
+          few = let few = leaf.few in omega arith;
+          known = λ t. elim (leaf.known t) [
+            | inl plain ↦ inl (plain.0, ascending_set rows i (x.0, v) x lt key_kept plain.1)
+            | inr lists ↦ inr (lists.0 ∙ sym size, subst (λ (keys : List (List ℕ)). IsSortedBy (λ p q. is_below (get_or keys p []) (get_or keys q [])) order) (sym (keys_set rows i (x.0, v) x lt key_kept)) lists.1)
+          ];
+        }
 
     pub written_map : (v : V) → sorted (set rows i (x.0, v)) ≡ with (sorted rows) key v
     written_map v = sorted_set rows i x leaf.keys lt read v ∙ ap (λ k. with (sorted rows) k v) has_key
@@ -128,17 +138,21 @@ module _ {V : Type 0} (salt : ℕ) (rows : Pairs V) (pairs : List (ℕ × ℕ)) 
     pub taken_keys : AreOnce (swap_remove rows i x)
     taken_keys = once_swap_remove rows i x leaf.keys lt read
 
-    pub taken_leaf : (more : List (ℕ × ℕ)) → AreTags salt (swap_remove rows i x) more → IsLeaf salt (swap_remove rows i x) more false
-    taken_leaf more tags = record { keys = taken_keys; tags = tags; order = λ t. absurd (cc (t)) }
+    pub taken_leaf : (more : List (ℕ × ℕ)) (left : List ℕ) (before : ℕ) → AreTags salt (swap_remove rows i x) more → ArePlaces left → length left ≤ before → before + 1 ≡ length rows → IsLeaf salt (swap_remove rows i x) more left false
+    taken_leaf more left before tags places few count =
+        let size : length (x ∷ swap_remove rows i x) ≡ length rows = length_permutation rows (x ∷ swap_remove rows i x) (IsPermutation-swap_remove rows i x lt read) in
+        record { keys = taken_keys; tags = tags; places = places; few = omega arith; known = λ t. absurd (cc (t)) }
 
   pub absent : (key : List ℕ) → find rows key ≡ None → find (sorted rows) key ≡ None
   absent key gone = find_sorted rows key ∙ gone
 
-  pub added_leaf : (key : List ℕ) (v : V) (more : List (ℕ × ℕ)) → find rows key ≡ None → IsPermutation ((tag_of salt key, length rows) ∷ pairs) more → IsLeaf salt (rows ++ (key, v) ∷ []) more false
+  pub added_leaf : (key : List ℕ) (v : V) (more : List (ℕ × ℕ)) → find rows key ≡ None → IsPermutation ((tag_of salt key, length rows) ∷ pairs) more → IsLeaf salt (rows ++ (key, v) ∷ []) more order false
   added_leaf key v more gone p = record {
     keys = once_added rows key v leaf.keys gone;
     tags = tags_added salt rows pairs leaf.tags (key, v) more p;
-    order = λ t. absurd (cc (t));
+    places = leaf.places;
+    few = let few = leaf.few in omega (arith, few, length-append rows ((key, v) ∷ []));
+    known = λ t. absurd (cc (t));
   }
 
   pub added_map : (key : List ℕ) (v : V) → find rows key ≡ None → sorted (rows ++ (key, v) ∷ []) ≡ with (sorted rows) key v

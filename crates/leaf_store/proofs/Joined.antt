@@ -1,10 +1,11 @@
 -- Two leaves with no key in both, as one.
-use Rattle.std.proofs.Common.{◌≡◌, ℕ, List, ◌++◌, false, None, sym, ap, ◌∙◌, subst, inl, inr, ◌⊎◌, arith, length, take}
+use Rattle.std.proofs.Common.{◌≡◌, ℕ, List, ◌++◌, false, None, sym, ap, ◌∙◌, subst, inl, inr, ◌⊎◌, arith, length, length-append, take, ◌≤◌}
 use Rattle.std.proofs.Math.Seq.{take-append_seam}
 use Rattle.std.proofs.lemmas.List.Sorted.{IsPermutation-append}
 use Rattle.key_bytes.specs.Order.{is_same}
 use Rattle.map_model.specs.Maps.{Pairs, find, sorted}
 use Rattle.map_model.proofs.Finds.{find_sorted}
+use Rattle.leaf_store.specs.Order.{ArePlaces}
 use Rattle.leaf_store.specs.Rows.{bit, AreTags, AreOnce, IsLeaf}
 use Rattle.leaf_store.proofs.Settled.{length-tags}
 use Rattle.leaf_store.proofs.Unsorted.{total_append, many_none, sorted_permutation, sorted_same}
@@ -31,5 +32,5 @@ module _ {V : Type 0} (left right : Pairs V) (once : AreOnce left) (other : AreO
   pub joined_map : sorted (left ++ right) ≡ sorted (sorted left ++ sorted right)
   joined_map = sorted_permutation (left ++ right) (sorted left ++ sorted right) (IsPermutation-append left (sorted left) right (sorted right) (sorted_same left once) (sorted_same right other)) once_joined
 
-  pub joined_leaf : (salt : ℕ) (pairs : List (ℕ × ℕ)) → AreTags salt (left ++ right) pairs → IsLeaf salt (left ++ right) pairs false
-  joined_leaf salt pairs tags = record { keys = once_joined; tags = tags; order = λ t. absurd (cc (t)) }
+  pub joined_leaf : (salt : ℕ) (pairs : List (ℕ × ℕ)) (order : List ℕ) → AreTags salt (left ++ right) pairs → ArePlaces order → length order ≤ length left → IsLeaf salt (left ++ right) pairs order false
+  joined_leaf salt pairs order tags places few = record { keys = once_joined; tags = tags; places = places; few = omega (arith, few, length-append left right); known = λ t. absurd (cc (t)) }

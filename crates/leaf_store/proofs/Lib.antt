@@ -7,6 +7,7 @@ pub mod Ascends
 pub mod Taken
 pub mod Settled
 pub mod Ranked
+pub mod Listing
 pub mod Cuts
 pub mod Parted
 pub mod Halves

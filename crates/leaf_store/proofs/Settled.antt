@@ -1,10 +1,13 @@
 -- Rows that were sorted, and their tags.
-use Rattle.std.proofs.Common.{◌≡◌, ℕ, ◌+◌, ◌<◌, List, [], ◌∷◌, Bool, true, sym, ap, ◌∙◌, subst, length, get_or, take, arith, IsTrue, length-take}
-use Rattle.std.specs.List.{Contains, remove}
+use Rattle.std.proofs.Common.{◌≡◌, ℕ, ◌+◌, ◌<◌, List, [], ◌∷◌, Bool, true, sym, ap, ◌∙◌, subst, length, get_or, take, arith, inl, ◌≤◌, IsTrue, length-take}
+use Rattle.std.specs.List.{AllByRecursion, Contains, remove}
 use Rattle.std.specs.List.Sorted.{IsPermutation}
 use Rattle.std.proofs.lemmas.List.{nil_from_length, take_more}
 use Rattle.std.proofs.lemmas.List.Sorted.{IsPermutation-refl, IsPermutation-cons, IsPermutation-trans, IsPermutation-sym, IsPermutation-remove, length_permutation}
+use Rattle.key_bytes.specs.Order.{is_below}
 use Rattle.leaf_store.specs.Tag.{tag_of}
+use Rattle.leaf_store.specs.Order.{ArePlaces}
+use Rattle.map_model.specs.Halves.{keys_of}
 use Rattle.map_model.specs.Maps.{Pairs, IsMap, sorted}
 use Rattle.map_model.proofs.Finds.{ascending_sorted}
 use Rattle.leaf_store.specs.Leaf.{LeafMap}
@@ -40,11 +43,14 @@ module _ {V : Type 0} where
       let q : IsPermutation ((tag_of salt (get_or rows i x).0, length (take i rows)) ∷ pairs) more = subst (λ n. IsPermutation ((tag_of salt (get_or rows i x).0, n) ∷ pairs) more) (sym size) (subst (λ t. IsPermutation ((t, i) ∷ pairs) more) e p) in
       subst (λ rs. AreTags salt rs more) (sym (take_more rows i x lt)) (tags_added salt (take i rows) pairs tags (get_or rows i x) more q)
 
-  pub settled_leaf : (salt : ℕ) (rows : Pairs V) (pairs : List (ℕ × ℕ)) (ordered : Bool) → IsLeaf salt rows pairs ordered → (new : Pairs V) (more : List (ℕ × ℕ)) → new ≡ sorted rows → AreTags salt (sorted rows) more → IsLeaf salt new more true
-  settled_leaf salt rows pairs ordered leaf new more e tags = record {
+  -- rows in the order of their keys, with no places listed
+  pub settled_leaf : (salt : ℕ) (rows : Pairs V) (pairs : List (ℕ × ℕ)) (order : List ℕ) (ordered : Bool) → IsLeaf salt rows pairs order ordered → (new : Pairs V) (more : List (ℕ × ℕ)) (none : List ℕ) → new ≡ sorted rows → AreTags salt (sorted rows) more → none ≡ [] → IsLeaf salt new more none true
+  settled_leaf salt rows pairs order ordered leaf new more none e tags empty = record {
     keys = once_permutation rows new (subst (IsPermutation rows) (sym e) (sorted_same rows leaf.keys)) leaf.keys;
     tags = subst (λ rs. AreTags salt rs more) (sym e) tags;
-    order = λ _. subst IsMap (sym e) (ascending_sorted rows);
+    places = subst ArePlaces (sym empty) (IsPermutation-refl []);
+    few = let z = ap length empty in omega arith;
+    known = λ _. inl (empty, subst IsMap (sym e) (ascending_sorted rows));
   }
 
   pub seen_map : (m n : LeafMap V) → m ≡ n → (p : Pairs V) → p ≡ m.map → p ≡ n.map
@@ -65,8 +71,28 @@ module _ {V : Type 0} where
   pub seen_pairs : (m n : LeafMap V) → m ≡ n → m.map ≡ n.map
   seen_pairs m n e = ap (λ (s : LeafMap V). s.map) e
 
-  -- rows that are in order are the map
-  pub settled_rows : (m n : LeafMap V) → m ≡ n → (rows : Pairs V) → sorted rows ≡ m.map → (IsTrue m.is_ordered → IsMap rows) → IsTrue n.is_ordered → (p : Pairs V) → n.map ≡ p → (rows ≡ p) × IsMap rows
-  settled_rows m n e rows same order ordered p is =
-      let up = order (seen_ordered m n e ordered) in
+  -- rows whose keys are the map's, in its order, are the map
+  ascending_keys : (xs ys : Pairs V) → keys_of xs ≡ keys_of ys → IsMap ys → IsMap xs
+  ascending_keys [] ys e up = tt
+  ascending_keys (x ∷ xs) [] e up = absurd (cc (e))
+  ascending_keys (x ∷ xs) (y ∷ ys) e up =
+      let here : x.0 ≡ y.0 = heads x.0 y.0 (keys_of xs) (keys_of ys) e in
+      let rest : keys_of xs ≡ keys_of ys = tails x.0 y.0 (keys_of xs) (keys_of ys) e in
+      (over x.0 xs ys rest (subst (λ k. AllByRecursion (λ (q : List ℕ × V). is_below k q.0 ≡ true) ys) (sym here) up.0), ascending_keys xs ys rest up.1)
+    where
+      heads : (a b : List ℕ) (l m : List (List ℕ)) → a ∷ l ≡ b ∷ m → a ≡ b
+      heads a b l m e = cc
+
+      tails : (a b : List ℕ) (l m : List (List ℕ)) → a ∷ l ≡ b ∷ m → l ≡ m
+      tails a b l m e = cc
+
+      over : (k : List ℕ) (xs ys : Pairs V) → keys_of xs ≡ keys_of ys → AllByRecursion (λ (q : List ℕ × V). is_below k q.0 ≡ true) ys → AllByRecursion (λ (q : List ℕ × V). is_below k q.0 ≡ true) xs
+      over k [] ys e all = tt
+      over k (x ∷ xs) [] e all = absurd (cc (e))
+      over k (x ∷ xs) (y ∷ ys) e all = (subst (λ j. is_below k j ≡ true) (sym (heads x.0 y.0 (keys_of xs) (keys_of ys) e)) all.0, over k xs ys (tails x.0 y.0 (keys_of xs) (keys_of ys) e) all.1)
+
+  pub settled_rows : (m n : LeafMap V) → m ≡ n → (rows : Pairs V) → sorted rows ≡ m.map → keys_of rows ≡ m.keys → n.keys ≡ keys_of n.map → (p : Pairs V) → n.map ≡ p → (rows ≡ p) × IsMap rows
+  settled_rows m n e rows same keys in_order p is =
+      let whole : keys_of rows ≡ keys_of (sorted rows) = keys ∙ (ap (λ (s : LeafMap V). s.keys) e ∙ (in_order ∙ ap keys_of (sym (same ∙ seen_pairs m n e)))) in
+      let up : IsMap rows = ascending_keys rows (sorted rows) whole (ascending_sorted rows) in
       (sym (sorted_ascending rows up) ∙ (same ∙ (seen_pairs m n e ∙ is)), up)

@@ -1,8 +1,9 @@
 -- What holds of a leaf's rows and tags.
-use Rattle.std.specs.Prelude.{◌≡◌, ℕ, ◌+◌, ◌≤◌, ◌==◌, ◌&&◌, Bool, true, false, IsTrue, List, [], ◌∷◌}
+use Rattle.std.specs.Prelude.{◌≡◌, ℕ, ◌+◌, ◌≤◌, ◌==◌, ◌&&◌, Bool, true, false, IsTrue, List, [], ◌∷◌, length}
 use Rattle.key_bytes.specs.Order.{is_same}
 use Rattle.leaf_store.specs.Tag.{tag_of}
-use Rattle.map_model.specs.Maps.{Pairs, IsMap}
+use Rattle.map_model.specs.Maps.{Pairs}
+use Rattle.leaf_store.specs.Order.{ArePlaces, AreInOrder}
 
 -- 1 for a truth, so that truths can be counted
 abbrev pub bit : Bool → ℕ
@@ -39,8 +40,10 @@ places salt i (row ∷ rows) = (tag_of salt row.0, i) ∷ places salt (i + 1) ro
 abbrev pub AreTags : {V : Type 0} → ℕ → Pairs V → List (ℕ × ℕ) → Type 0
 AreTags salt rows pairs = (q : ℕ × ℕ) → times q pairs ≡ times q (places salt 0 rows)
 
--- rows and tags fit together, and the rows ascend where they are said to
-pub record IsLeaf {V : Type 0} (salt : ℕ) (rows : Pairs V) (pairs : List (ℕ × ℕ)) (ordered : Bool) : Type 0 where
+-- rows, tags and the places of the first rows fit together, and the order is known where it is said to be
+pub record IsLeaf {V : Type 0} (salt : ℕ) (rows : Pairs V) (pairs : List (ℕ × ℕ)) (order : List ℕ) (ordered : Bool) : Type 0 where
   pub keys : AreOnce rows
   pub tags : AreTags salt rows pairs
-  pub order : IsTrue ordered → IsMap rows
+  pub places : ArePlaces order
+  pub few : length order ≤ length rows
+  pub known : IsTrue ordered → AreInOrder rows order

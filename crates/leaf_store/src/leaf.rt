@@ -10,7 +10,8 @@ ghost use Rattle.key_bytes.specs.Fnv.{prefix_hash};
 ghost use Rattle.leaf_store.specs.Lent.{LendsValue};
 ghost use Rattle.leaf_store.specs.Tag.{tag_of};
 
-use crate::order::{count_under, move_head, move_tail};
+use crate::order::{move_head, move_tail};
+use crate::place_order::{count_in_order, order_leaf, place_at, take_place};
 use crate::ranks::settle;
 use crate::rows::{add_tags, cut_tags, first_bits, place_of, take_tag};
 use key_bytes::{Bound, Key, prefix_hash, separator};
@@ -23,11 +24,17 @@ use std::mem;
 ///
 /// Its rows stand in any order in one block of memory, and are found by the tags of their keys. A
 /// call that finds one key compares mostly one key or none. No call copies a key or a value.
+///
+/// The order of the keys is asked for now and then, and kept as a list of places, so that no row moves
+/// for it. A new key isn't listed before the order is asked for again.
 #[derive(Drop)]
 pub struct Leaf<V> {
     rows: Vec<(Key, V)>,
     tags: Tags,
     salt: u64,
+    // The places of the first rows: ascending by their keys when they were listed, with those behind
+    // that got another row since. None are listed where the rows themselves ascend.
+    order: Vec<u16>,
     ordered: bool,
 }
 
@@ -42,7 +49,7 @@ impl<V> Model for Leaf<V> {
 
     ghost view = { λ l. record { map = sorted l.rows.items; keys = keys_of l.rows.items; spare = min (vec_capacity l.rows - length l.rows.items) l.tags.spare; salt = l.salt; is_ordered = l.ordered } };
 
-    ghost invariant = { λ l. IsLeaf l.salt l.rows.items l.tags.pairs l.ordered };
+    ghost invariant = { λ l. IsLeaf l.salt l.rows.items l.tags.pairs l.order.items l.ordered };
 }
 
 impl<V> Leaf<V> {
@@ -56,6 +63,7 @@ impl<V> Leaf<V> {
             rows: Vec::new(alloc),
             tags: Tags::new(alloc),
             salt,
+            order: Vec::new(alloc),
             ordered: true,
         }
     }
@@ -197,7 +205,8 @@ impl<V> Leaf<V> {
         }
     }
 
-    /// Takes a key out, and gives back its value. The last row moves to its place.
+    /// Takes a key out, and gives back its value. The last row moves to its place. Where places are
+    /// listed, two of them are looked for.
     pub fn remove(&mut self, key: &Key) -> Option<V>
         ensures map { self.new.map ≡ without self.old.map key.now }
         ensures value { result ≡ find self.old.map key.now }
@@ -220,18 +229,20 @@ impl<V> Leaf<V> {
         let tag = first_bits(hash);
         let place = place_of(&self.rows, &self.tags, tag, key)?;
         self.ordered = false;
+        take_place(&mut self.order, place, self.tags.len() - 1);
         take_tag(&mut self.tags, &self.rows, self.salt, tag, place);
         let (_, value) = self.rows.swap_remove(place);
         Some(value)
     }
 
-    /// Puts the rows in order, unless they are, and gives the places in it of the pairs from `from`,
+    /// Puts the order in place, unless it is, and gives the places in it of the pairs from `from`,
     /// included, to `upto`, excluded. Where `from` is above `upto` the first place is above the
     /// second, and there are no such pairs.
     ///
-    /// A sort takes 18 bytes for each row while it runs, and what std's stable sort takes itself. It is
-    /// slower where there is no memory for them, so this call never fails today. Rows that are in order
-    /// cost two binary searches.
+    /// What is sorted are the places, two bytes for each row, by std's stable sort: those that were in
+    /// order the last time are one run of it, and cost a comparison each, as do new ones that are merged
+    /// into them. Without memory for them the rows themselves are sorted, so this call never fails. An
+    /// order that is in place costs two binary searches.
     pub fn pairs_between(
         &mut self,
         from: &Bound,
@@ -252,8 +263,8 @@ impl<V> Leaf<V> {
         ensures again { IsTrue self.old.is_ordered → self.new ≡ self.old }
     {
         self.put_in_order();
-        let start = count_under(&self.rows, from);
-        let end = count_under(&self.rows, upto);
+        let start = count_in_order(&self.rows, &self.order, from);
+        let end = count_in_order(&self.rows, &self.order, upto);
         Ok((start, end))
     }
 
@@ -263,7 +274,7 @@ impl<V> Leaf<V> {
         requires in_range { i < length self.now.map }
         ensures { (d : List ℕ × V) → slice_index_or self.now.map i d ≡ (result.0.now, result.1.now) }
     {
-        let row = &self.rows[i];
+        let row = &self.rows[place_at(&self.order, i)];
         (&row.0, &row.1)
     }
 
@@ -278,7 +289,7 @@ impl<V> Leaf<V> {
         ensures spare { self.old.spare ≤ self.new.spare }
         ensures ordered { IsTrue self.new.is_ordered }
     {
-        self.put_in_order();
+        self.arrange_rows();
         let stay = self.len() - self.len() / 2;
         separator(alloc, self.at(stay - 1).0, self.at(stay).0)
     }
@@ -298,7 +309,7 @@ impl<V> Leaf<V> {
         ensures spare { self.old.spare ≤ self.new.spare }
         ensures ordered { IsTrue self.new.is_ordered × IsTrue right.new.is_ordered }
     {
-        self.put_in_order();
+        self.arrange_rows();
         let stay = self.rows.len() - self.rows.len() / 2;
         cut_tags(
             &mut self.tags,
@@ -309,6 +320,7 @@ impl<V> Leaf<V> {
             right.salt,
         );
         move_tail(&mut self.rows, stay, &mut right.rows);
+        self.order.clear();
         right.ordered = true;
     }
 
@@ -346,11 +358,12 @@ impl<V> Leaf<V> {
         ensures salts { (self.new.salt ≡ self.old.salt) × (left.new.salt ≡ left.old.salt) }
         ensures ordered { IsTrue self.new.is_ordered × IsTrue left.new.is_ordered }
     {
-        self.put_in_order();
+        self.arrange_rows();
         let go = self.rows.len() - self.rows.len() / 2;
         self.tags.split_off(go, &mut left.tags);
         mem::swap(&mut self.tags, &mut left.tags);
         move_head(&mut self.rows, go, &mut left.rows);
+        self.order.clear();
         left.ordered = true;
     }
 
@@ -368,6 +381,7 @@ impl<V> Leaf<V> {
         self.reserve(right.rows.len())?;
         self.rows.append(&mut right.rows)?;
         right.tags.clear();
+        right.order.clear();
         add_tags(&mut self.tags, &self.rows, self.salt);
         self.ordered = false;
         Ok(())
@@ -392,7 +406,7 @@ impl<V> Leaf<V> {
         }
     }
 
-    // Puts the rows in the order of their keys, unless they are.
+    // Puts the order in place, unless it is.
     fn put_in_order(&mut self)
         ensures map { self.new.map ≡ self.old.map }
         ensures ordered { IsTrue self.new.is_ordered }
@@ -401,7 +415,22 @@ impl<V> Leaf<V> {
         ensures again { IsTrue self.old.is_ordered → self.new ≡ self.old }
     {
         if !self.ordered {
+            order_leaf(&mut self.rows, &mut self.tags, self.salt, &mut self.order);
+            self.ordered = true;
+        }
+    }
+
+    // Puts the rows themselves in the order of their keys, unless they are.
+    fn arrange_rows(&mut self)
+        ensures map { self.new.map ≡ self.old.map }
+        ensures keys { self.new.keys ≡ keys_of self.new.map }
+        ensures ordered { IsTrue self.new.is_ordered }
+        ensures salt { self.new.salt ≡ self.old.salt }
+        ensures spare { self.old.spare ≤ self.new.spare }
+    {
+        if !self.ordered || !self.order.is_empty() {
             settle(&mut self.rows, &mut self.tags, self.salt);
+            self.order.clear();
             self.ordered = true;
         }
     }

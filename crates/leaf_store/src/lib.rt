@@ -4,6 +4,7 @@
 
 mod leaf;
 mod order;
+mod place_order;
 mod ranks;
 mod rows;
 

@@ -18,7 +18,7 @@ pub(crate) fn sort_rows<V>(rows: &mut Vec<(Key, V)>)
 }
 
 // Whether a key is below an end.
-fn is_under(end: &Bound, key: &Key) -> bool
+pub(crate) fn is_under(end: &Bound, key: &Key) -> bool
     ensures { result ≡ is_under end.now key.now }
 {
     match end {

@@ -34,7 +34,7 @@ invariant_of-self-2 g c =
     let right = c.right.inside.rows.items in
     let apart = still_apart (sorted left) (sorted right) c.args.self.now.map c.args.right.now.map (seen_pairs _ _ c.self.view_is ∙ seen_pairs _ _ c.in_ok-reserve.ensures.stays) (seen_pairs _ _ c.right.view_is) c.requires in
     let tags = subst (λ rows. AreTags c.self.inside.salt rows c.add_tags.new.tags.pairs) (c.deref.ensures.value ∙ c.in_ok-append.ensures.items) c.add_tags.ensures.tags in
-    rw c.in_ok-append.ensures.items (joined_leaf left right c.self.invariant.keys c.right.invariant.keys apart c.self.inside.salt c.add_tags.new.tags.pairs tags)
+    rw c.in_ok-append.ensures.items (joined_leaf left right c.self.invariant.keys c.right.invariant.keys apart c.self.inside.salt c.add_tags.new.tags.pairs c.self.inside.order.items tags c.self.invariant.places c.self.invariant.few)
 
 pub returns-clause-joined : goal.returns-clause-joined
 returns-clause-joined g c =

@@ -2,7 +2,7 @@ use Rattle.std.proofs.Common.{arith, ◌≡◌, ◌∙◌, ◌+◌, ◌-◌, ◌
 use Rattle.map_model.specs.Maps.{sorted}
 use Rattle.leaf_store.specs.Rows.{AreTags}
 use Rattle.leaf_store.proofs.Unsorted.{sorted_nothing, sorted_ascending}
-use Rattle.leaf_store.proofs.Halves.{left_leaf, right_leaf, left_map, right_map}
+use Rattle.leaf_store.proofs.Halves.{none_listed, left_leaf, right_leaf, left_map, right_map}
 use Rattle.leaf_store.proofs.Settled.{no_tags, settled_rows, seen_pairs, seen_spare}
 use Rattle.leaf_store.proofs.leaf.Leaf.halve.Goals as goal
 
@@ -11,7 +11,7 @@ move_tail-requires-clause-empty g c = sorted_nothing c.right.inside.rows.items c
 
 pub move_tail-requires-clause-room : goal.move_tail-requires-clause-room
 move_tail-requires-clause-room g c =
-    let s = settled_rows _ _ c.self.view_is c.self.inside.rows.items refl c.self.invariant.order c.put_in_order.ensures.ordered _ c.put_in_order.ensures.map in
+    let s = settled_rows _ _ c.self.view_is c.self.inside.rows.items refl refl c.arrange_rows.ensures.keys _ c.arrange_rows.ensures.map in
     let size = ap length s.0 in
     let spare = seen_spare _ _ c.right.view_is in
     let room = c.requires.room in
@@ -25,7 +25,7 @@ cut_tags-requires-clause-empty g c = no_tags c.right.inside.salt c.right.inside.
 
 pub cut_tags-requires-clause-room : goal.cut_tags-requires-clause-room
 cut_tags-requires-clause-room g c =
-    let s = settled_rows _ _ c.self.view_is c.self.inside.rows.items refl c.self.invariant.order c.put_in_order.ensures.ordered _ c.put_in_order.ensures.map in
+    let s = settled_rows _ _ c.self.view_is c.self.inside.rows.items refl refl c.arrange_rows.ensures.keys _ c.arrange_rows.ensures.map in
     let size = ap length s.0 in
     let spare = seen_spare _ _ c.right.view_is in
     let room = c.requires.room in
@@ -34,19 +34,19 @@ cut_tags-requires-clause-room g c =
 
 pub invariant_of-self : goal.invariant_of-self
 invariant_of-self g c =
-    let s = settled_rows _ _ c.self.view_is c.self.inside.rows.items refl c.self.invariant.order c.put_in_order.ensures.ordered _ c.put_in_order.ensures.map in
+    let s = settled_rows _ _ c.self.view_is c.self.inside.rows.items refl refl c.arrange_rows.ensures.keys _ c.arrange_rows.ensures.map in
     let tags = subst (λ rows. AreTags c.self.inside.salt (take (c.len.result - c.len-2.result / 2) rows) c.cut_tags.new.tags.pairs) c.deref.ensures.value c.cut_tags.ensures.stay in
-    rw c.move_tail.ensures.stay (left_leaf c.self.inside.rows.items s.1 (c.len.result - c.len-2.result / 2) c.self.invariant.keys c.self.inside.salt c.cut_tags.new.tags.pairs tags c.self.inside.ordered)
+    rw c.move_tail.ensures.stay (left_leaf c.self.inside.rows.items s.1 (c.len.result - c.len-2.result / 2) c.self.invariant.keys c.self.inside.salt c.cut_tags.new.tags.pairs tags c.clear.new.self.items c.clear.ensures.items c.self.inside.ordered)
 
 pub invariant_of-right : goal.invariant_of-right
 invariant_of-right g c =
-    let s = settled_rows _ _ c.self.view_is c.self.inside.rows.items refl c.self.invariant.order c.put_in_order.ensures.ordered _ c.put_in_order.ensures.map in
+    let s = settled_rows _ _ c.self.view_is c.self.inside.rows.items refl refl c.arrange_rows.ensures.keys _ c.arrange_rows.ensures.map in
     let tags = subst (λ rows. AreTags c.right.inside.salt (drop (c.len.result - c.len-2.result / 2) rows) c.cut_tags.new.right.pairs) c.deref.ensures.value c.cut_tags.ensures.go in
-    rw c.move_tail.ensures.go (right_leaf c.self.inside.rows.items s.1 (c.len.result - c.len-2.result / 2) c.self.invariant.keys c.right.inside.salt c.cut_tags.new.right.pairs tags true)
+    rw c.move_tail.ensures.go (right_leaf c.self.inside.rows.items s.1 (c.len.result - c.len-2.result / 2) c.self.invariant.keys c.right.inside.salt c.cut_tags.new.right.pairs tags c.right.inside.order.items (none_listed c.right.inside.rows.items c.right.inside.order.items (sorted_nothing c.right.inside.rows.items c.right.invariant.keys (seen_pairs _ _ c.right.view_is ∙ c.requires.empty)) c.right.invariant.few) true)
 
 pub returns-clause-stay : goal.returns-clause-stay
 returns-clause-stay g c =
-    let s = settled_rows _ _ c.self.view_is c.self.inside.rows.items refl c.self.invariant.order c.put_in_order.ensures.ordered _ c.put_in_order.ensures.map in
+    let s = settled_rows _ _ c.self.view_is c.self.inside.rows.items refl refl c.arrange_rows.ensures.keys _ c.arrange_rows.ensures.map in
     let size = ap length s.0 in
     let half : c.len.result - c.len-2.result / 2 ≡ (length c.args.self.now.map + 1) / 2 = omega (arith, size, c.len.ensures, c.len-2.ensures) in
     ap sorted c.move_tail.ensures.stay ∙ (left_map c.self.inside.rows.items s.1 (c.len.result - c.len-2.result / 2)
@@ -54,7 +54,7 @@ returns-clause-stay g c =
 
 pub returns-clause-go : goal.returns-clause-go
 returns-clause-go g c =
-    let s = settled_rows _ _ c.self.view_is c.self.inside.rows.items refl c.self.invariant.order c.put_in_order.ensures.ordered _ c.put_in_order.ensures.map in
+    let s = settled_rows _ _ c.self.view_is c.self.inside.rows.items refl refl c.arrange_rows.ensures.keys _ c.arrange_rows.ensures.map in
     let size = ap length s.0 in
     let half : c.len.result - c.len-2.result / 2 ≡ (length c.args.self.now.map + 1) / 2 = omega (arith, size, c.len.ensures, c.len-2.ensures) in
     ap sorted c.move_tail.ensures.go ∙ (right_map c.self.inside.rows.items s.1 (c.len.result - c.len-2.result / 2)
@@ -64,4 +64,4 @@ pub returns-clause-spare : goal.returns-clause-spare
 returns-clause-spare g c =
     let stay = ap length c.move_tail.ensures.stay ∙ length-take (c.len.result - c.len-2.result / 2) c.self.inside.rows.items in
     let spare = seen_spare _ _ c.self.view_is in
-    omega (arith, stay, spare, c.put_in_order.ensures.spare, c.move_tail.ensures.from_capacity, c.cut_tags.ensures.spare)
+    omega (arith, stay, spare, c.arrange_rows.ensures.spare, c.move_tail.ensures.from_capacity, c.cut_tags.ensures.spare)

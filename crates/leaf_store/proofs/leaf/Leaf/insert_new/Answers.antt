@@ -26,9 +26,9 @@ invariant_of-self g c =
     let at : c.len-place.result ≡ length c.self.inside.rows.items = c.len-place.ensures.len ∙ length-tags c.self.inside.salt c.self.inside.rows.items c.self.inside.tags.pairs c.self.invariant.tags in
     let tag = subst (λ t. IsPermutation ((t, c.len-place.result) ∷ c.self.inside.tags.pairs) c.add.new.self.pairs) is c.add.ensures.pairs in
     let pairs = subst (λ n. IsPermutation ((tag_of c.self.inside.salt c.args.key, n) ∷ c.self.inside.tags.pairs) c.add.new.self.pairs) at tag in
-    rw c.push_reserved.ensures.items (added_leaf c.self.inside.salt c.self.inside.rows.items c.self.inside.tags.pairs c.self.inside.ordered c.self.invariant c.args.key c.args.value c.add.new.self.pairs none pairs)
+    rw c.push_reserved.ensures.items (added_leaf c.self.inside.salt c.self.inside.rows.items c.self.inside.tags.pairs c.self.inside.order.items c.self.inside.ordered c.self.invariant c.args.key c.args.value c.add.new.self.pairs none pairs)
 
 pub returns-clause-map : goal.returns-clause-map
 returns-clause-map g c =
     let none = seen_gone_key _ _ c.self.view_is c.self.inside.rows.items refl c.args.key c.requires.absent in
-    seen_with _ _ c.self.view_is _ c.args.key c.args.value (rw c.push_reserved.ensures.items (added_map c.self.inside.salt c.self.inside.rows.items c.self.inside.tags.pairs c.self.inside.ordered c.self.invariant c.args.key c.args.value none))
+    seen_with _ _ c.self.view_is _ c.args.key c.args.value (rw c.push_reserved.ensures.items (added_map c.self.inside.salt c.self.inside.rows.items c.self.inside.tags.pairs c.self.inside.order.items c.self.inside.ordered c.self.invariant c.args.key c.args.value none))

@@ -1,28 +1,27 @@
-use Rattle.std.proofs.Common.{arith, ◌∙◌, refl, ap, subst, length}
+use Rattle.std.proofs.Common.{arith, ◌≡◌, ◌∙◌, ap, subst, length}
 use Rattle.key_bytes.specs.declared.bound.Bound.TheVariants.{Low}
-use Rattle.map_model.specs.Maps.{IsMap, between}
+use Rattle.map_model.specs.Maps.{IsMap, between, sorted}
+use Rattle.map_model.proofs.Finds.{ascending_sorted}
 use Rattle.leaf_store.proofs.Cuts.{between_at}
-use Rattle.leaf_store.proofs.Settled.{settled_rows}
+use Rattle.leaf_store.proofs.Settled.{seen_ordered, seen_pairs}
+use Rattle.leaf_store.proofs.Unsorted.{length-sorted}
 use Rattle.leaf_store.proofs.leaf.Leaf.pairs_between.Goals as goal
 
 pub returns-clause-start : goal.returns-clause-start
-returns-clause-start g c =
-    let s = settled_rows _ _ c.self.view_is c.self.inside.rows.items refl c.self.invariant.order c.put_in_order.ensures.ordered _ c.put_in_order.ensures.map in
-    c.count_under-start.ensures.count ∙ ap (λ m. length (between m Low c.args.from.now)) (c.deref.ensures.value ∙ s.0)
+returns-clause-start g c = c.count_in_order-start.ensures.count ∙ ap (λ m. length (between m Low c.args.from.now)) (ap sorted c.deref.ensures.value ∙ (seen_pairs _ _ c.self.view_is ∙ c.put_in_order.ensures.map))
 
 pub returns-clause-end : goal.returns-clause-end
-returns-clause-end g c =
-    let s = settled_rows _ _ c.self.view_is c.self.inside.rows.items refl c.self.invariant.order c.put_in_order.ensures.ordered _ c.put_in_order.ensures.map in
-    c.count_under-end.ensures.count ∙ ap (λ m. length (between m Low c.args.upto.now)) (c.deref-2.ensures.value ∙ s.0)
+returns-clause-end g c = c.count_in_order-end.ensures.count ∙ ap (λ m. length (between m Low c.args.upto.now)) (ap sorted c.deref-3.ensures.value ∙ (seen_pairs _ _ c.self.view_is ∙ c.put_in_order.ensures.map))
 
 pub returns-clause-in_range : goal.returns-clause-in_range
 returns-clause-in_range g c =
-    let s = settled_rows _ _ c.self.view_is c.self.inside.rows.items refl c.self.invariant.order c.put_in_order.ensures.ordered _ c.put_in_order.ensures.map in
-    let start = ap length (c.deref.ensures.value ∙ s.0) in
-    let end = ap length (c.deref-2.ensures.value ∙ s.0) in
-    (omega (arith, start, c.count_under-start.ensures.in_range), omega (arith, end, c.count_under-end.ensures.in_range))
+    let size = length-sorted c.self.inside.rows.items c.self.invariant.keys in
+    let map = ap length (seen_pairs _ _ c.self.view_is ∙ c.put_in_order.ensures.map) in
+    let start = ap length c.deref.ensures.value in
+    let end = ap length c.deref-3.ensures.value in
+    (omega (arith, size, map, start, c.count_in_order-start.ensures.in_range), omega (arith, size, map, end, c.count_in_order-end.ensures.in_range))
 
 pub returns-clause-pairs : goal.returns-clause-pairs
 returns-clause-pairs g c =
-    let s = settled_rows _ _ c.self.view_is c.self.inside.rows.items refl c.self.invariant.order c.put_in_order.ensures.ordered _ c.put_in_order.ensures.map in
-    between_at c.args.self.now.map (subst IsMap s.0 s.1) c.args.from.now c.args.upto.now c.count_under-start.result c.count_under-end.result (returns-clause-start g c) (returns-clause-end g c)
+    let up = subst IsMap (seen_pairs _ _ c.self.view_is ∙ c.put_in_order.ensures.map) (ascending_sorted c.self.inside.rows.items) in
+    between_at c.args.self.now.map up c.args.from.now c.args.upto.now c.count_in_order-start.result c.count_in_order-end.result (returns-clause-start g c) (returns-clause-end g c)

@@ -3,7 +3,7 @@ use Rattle.map_model.specs.Maps.{sorted}
 use Rattle.leaf_store.specs.Leaf.{LeafMap}
 use Rattle.leaf_store.specs.Rows.{AreTags}
 use Rattle.leaf_store.proofs.Unsorted.{sorted_nothing, sorted_ascending}
-use Rattle.leaf_store.proofs.Halves.{left_leaf, right_leaf, left_map, right_map}
+use Rattle.leaf_store.proofs.Halves.{none_listed, left_leaf, right_leaf, left_map, right_map}
 use Rattle.leaf_store.proofs.Parted.{left_tags, right_tags}
 use Rattle.leaf_store.proofs.Settled.{length-tags, no_tags, settled_rows, seen_pairs, seen_spare}
 use Rattle.leaf_store.proofs.leaf.Leaf.split_front.Goals as goal
@@ -13,7 +13,7 @@ split_off-requires-clause-empty g c = no_tags c.left.inside.salt c.left.inside.r
 
 pub split_off-requires-clause-room : goal.split_off-requires-clause-room
 split_off-requires-clause-room g c =
-    let s = settled_rows _ _ c.self.view_is c.self.inside.rows.items refl c.self.invariant.order c.put_in_order.ensures.ordered _ c.put_in_order.ensures.map in
+    let s = settled_rows _ _ c.self.view_is c.self.inside.rows.items refl refl c.arrange_rows.ensures.keys _ c.arrange_rows.ensures.map in
     let size = ap length s.0 in
     let count = length-tags c.self.inside.salt (drop (c.len.result - c.len-2.result / 2) c.self.inside.rows.items) _ (right_tags c.self.inside.salt c.self.inside.rows.items c.self.inside.tags.pairs c.self.invariant.tags (c.len.result - c.len-2.result / 2)) in
     let spare = seen_spare _ _ c.left.view_is in
@@ -25,7 +25,7 @@ move_head-requires-clause-empty g c = sorted_nothing c.left.inside.rows.items c.
 
 pub move_head-requires-clause-room : goal.move_head-requires-clause-room
 move_head-requires-clause-room g c =
-    let s = settled_rows _ _ c.self.view_is c.self.inside.rows.items refl c.self.invariant.order c.put_in_order.ensures.ordered _ c.put_in_order.ensures.map in
+    let s = settled_rows _ _ c.self.view_is c.self.inside.rows.items refl refl c.arrange_rows.ensures.keys _ c.arrange_rows.ensures.map in
     let size = ap length s.0 in
     let spare = seen_spare _ _ c.left.view_is in
     let room = c.requires.room in
@@ -33,22 +33,22 @@ move_head-requires-clause-room g c =
 
 pub invariant_of-self : goal.invariant_of-self
 invariant_of-self g c =
-    let s = settled_rows _ _ c.self.view_is c.self.inside.rows.items refl c.self.invariant.order c.put_in_order.ensures.ordered _ c.put_in_order.ensures.map in
+    let s = settled_rows _ _ c.self.view_is c.self.inside.rows.items refl refl c.arrange_rows.ensures.keys _ c.arrange_rows.ensures.map in
     let moved = right_tags c.self.inside.salt c.self.inside.rows.items c.self.inside.tags.pairs c.self.invariant.tags (c.len.result - c.len-2.result / 2) in
     let tags : AreTags c.self.inside.salt (drop (c.len.result - c.len-2.result / 2) c.self.inside.rows.items) c.swap.new.x.pairs = subst (AreTags c.self.inside.salt (drop (c.len.result - c.len-2.result / 2) c.self.inside.rows.items)) (sym (ap (λ t. t.pairs) c.swap.ensures.x_after ∙ c.split_off.ensures.go)) moved in
-    rw c.move_head.ensures.stay (right_leaf c.self.inside.rows.items s.1 (c.len.result - c.len-2.result / 2) c.self.invariant.keys c.self.inside.salt c.swap.new.x.pairs tags c.self.inside.ordered)
+    rw c.move_head.ensures.stay (right_leaf c.self.inside.rows.items s.1 (c.len.result - c.len-2.result / 2) c.self.invariant.keys c.self.inside.salt c.swap.new.x.pairs tags c.clear.new.self.items c.clear.ensures.items c.self.inside.ordered)
 
 pub invariant_of-left : goal.invariant_of-left
 invariant_of-left g c =
-    let s = settled_rows _ _ c.self.view_is c.self.inside.rows.items refl c.self.invariant.order c.put_in_order.ensures.ordered _ c.put_in_order.ensures.map in
-    let same : c.left.inside.salt ≡ c.self.inside.salt = ap (λ (l : LeafMap g.row.V.Denot). l.salt) c.left.view_is ∙ (c.requires.salt ∙ sym (ap (λ (l : LeafMap g.row.V.Denot). l.salt) c.self.view_is ∙ c.put_in_order.ensures.salt)) in
+    let s = settled_rows _ _ c.self.view_is c.self.inside.rows.items refl refl c.arrange_rows.ensures.keys _ c.arrange_rows.ensures.map in
+    let same : c.left.inside.salt ≡ c.self.inside.salt = ap (λ (l : LeafMap g.row.V.Denot). l.salt) c.left.view_is ∙ (c.requires.salt ∙ sym (ap (λ (l : LeafMap g.row.V.Denot). l.salt) c.self.view_is ∙ c.arrange_rows.ensures.salt)) in
     let stayed = left_tags c.self.inside.salt c.self.inside.rows.items c.self.inside.tags.pairs c.self.invariant.tags (c.len.result - c.len-2.result / 2) in
     let tags : AreTags c.self.inside.salt (take (c.len.result - c.len-2.result / 2) c.self.inside.rows.items) c.swap.new.y.pairs = subst (AreTags c.self.inside.salt (take (c.len.result - c.len-2.result / 2) c.self.inside.rows.items)) (sym (ap (λ t. t.pairs) c.swap.ensures.y_after ∙ c.split_off.ensures.stay)) stayed in
-    rw c.move_head.ensures.go (left_leaf c.self.inside.rows.items s.1 (c.len.result - c.len-2.result / 2) c.self.invariant.keys c.left.inside.salt c.swap.new.y.pairs (subst (λ salt. AreTags salt (take (c.len.result - c.len-2.result / 2) c.self.inside.rows.items) c.swap.new.y.pairs) (sym same) tags) true)
+    rw c.move_head.ensures.go (left_leaf c.self.inside.rows.items s.1 (c.len.result - c.len-2.result / 2) c.self.invariant.keys c.left.inside.salt c.swap.new.y.pairs (subst (λ salt. AreTags salt (take (c.len.result - c.len-2.result / 2) c.self.inside.rows.items) c.swap.new.y.pairs) (sym same) tags) c.left.inside.order.items (none_listed c.left.inside.rows.items c.left.inside.order.items (sorted_nothing c.left.inside.rows.items c.left.invariant.keys (seen_pairs _ _ c.left.view_is ∙ c.requires.empty)) c.left.invariant.few) true)
 
 pub returns-clause-stay : goal.returns-clause-stay
 returns-clause-stay g c =
-    let s = settled_rows _ _ c.self.view_is c.self.inside.rows.items refl c.self.invariant.order c.put_in_order.ensures.ordered _ c.put_in_order.ensures.map in
+    let s = settled_rows _ _ c.self.view_is c.self.inside.rows.items refl refl c.arrange_rows.ensures.keys _ c.arrange_rows.ensures.map in
     let size = ap length s.0 in
     let half : c.len.result - c.len-2.result / 2 ≡ (length c.args.self.now.map + 1) / 2 = omega (arith, size, c.len.ensures, c.len-2.ensures) in
     ap sorted c.move_head.ensures.stay ∙ (right_map c.self.inside.rows.items s.1 (c.len.result - c.len-2.result / 2)
@@ -56,7 +56,7 @@ returns-clause-stay g c =
 
 pub returns-clause-go : goal.returns-clause-go
 returns-clause-go g c =
-    let s = settled_rows _ _ c.self.view_is c.self.inside.rows.items refl c.self.invariant.order c.put_in_order.ensures.ordered _ c.put_in_order.ensures.map in
+    let s = settled_rows _ _ c.self.view_is c.self.inside.rows.items refl refl c.arrange_rows.ensures.keys _ c.arrange_rows.ensures.map in
     let size = ap length s.0 in
     let half : c.len.result - c.len-2.result / 2 ≡ (length c.args.self.now.map + 1) / 2 = omega (arith, size, c.len.ensures, c.len-2.ensures) in
     ap sorted c.move_head.ensures.go ∙ (left_map c.self.inside.rows.items s.1 (c.len.result - c.len-2.result / 2)
