@@ -83,7 +83,7 @@ abbrev pub has : View → ℕ → Holding
 has v leaf = the_holding (held_at v leaf)
 
 abbrev pub no_content : Content
-no_content = record { map = []; spare = 0; salt = 0; is_ordered = true }
+no_content = record { map = []; keys = []; spare = 0; salt = 0; is_ordered = true }
 
 abbrev pub content_of : Spot → Content
 content_of (at_home m) = m

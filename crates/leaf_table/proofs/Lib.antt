@@ -1,4 +1,3 @@
-pub mod Beside
 pub mod Leaves
 pub mod ListedLeaves
 pub mod LiveLeaves

@@ -1,6 +1,6 @@
 //! Looking for a key, and at the leaves.
 
-ghost use Rattle.std.specs.Prelude.{◌≡◌, ◌+◌, ◌-◌, ◌<◌, Option, Some, None, MatchOption, true};
+ghost use Rattle.std.specs.Prelude.{◌≡◌, ◌<◌, Some, None, MatchOption, true};
 ghost use Rattle.key_bytes.specs.Fnv.{prefix_hash};
 ghost use Rattle.anchor_rules.specs.Anchors.{target, has_leaf};
 ghost use Rattle.map_model.specs.Maps as maps;
@@ -12,8 +12,9 @@ ghost use Rattle.leaf_table.specs.Table.{size_at};
 
 use crate::{LeafTable, Neighbours, Place};
 use key_bytes::Key;
+use meta_trie::neighbours;
 use prefix_search::{Hint, seek};
-use row_words::{Rows, VecRows};
+use row_words::VecRows;
 use std::marker::Brand;
 use std::sync::ledger::{Blank, Ledger};
 use steps::Steps;
@@ -81,7 +82,7 @@ fn seek_key<L: Ledger>(rows: &mut VecRows, key: &Key, hint: &mut Hint, blank: Bl
     }
 }
 
-// The leaves that a leaf's row names.
+// The leaves just before and just behind a leaf, with a counter for the look at its row.
 fn beside<L: Ledger>(rows: &mut VecRows, leaf: u32, blank: Blank) -> Neighbours
     requires name { blank.name ≡ L.name }
     requires parts { blank.parts ≡ L.parts }
@@ -93,16 +94,9 @@ fn beside<L: Ledger>(rows: &mut VecRows, leaf: u32, blank: Blank) -> Neighbours
     ensures shape { shape_of rows.new ≡ shape_of rows.old }
 {
     let mut steps = Steps::<L>::new(blank);
-    let row = rows.leaf(leaf, &mut steps);
+    let sides = neighbours(rows, leaf, &mut steps);
     Neighbours {
-        left: named(row.previous),
-        right: named(row.next),
+        left: sides.before,
+        right: sides.behind,
     }
-}
-
-// The leaf that a link names, if it names one.
-fn named(link: u32) -> Option<u32>
-    ensures { MatchOption result (link ≡ 0) (λ leaf. link ≡ leaf + 1) }
-{
-    if link == 0 { None } else { Some(link - 1) }
 }
