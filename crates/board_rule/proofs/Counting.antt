@@ -1,4 +1,4 @@
--- The count over the leaves' sizes, as calls, splits and merges change it.
+-- The new keys go on bounding the leaves' sizes and the versions: after a call, after a split and after a merge.
 use Rattle.std.proofs.Common.{◌≡◌, ◌≢◌, ◌⊎◌, inl, inr, ℕ, ◌+◌, ◌-◌, ◌/◌, ◌<◌, ◌≤◌, List, [], ◌∷◌, ◌++◌, length, length-append, length-drop, Bool, true, false, cond, is_some, Option, Some, None, refl, sym, ap, ◌∙◌, subst, arith}
 use mathlib.Core.Logic.{dite}
 use native.Mathlib.Decide.{ℕ_discrete}
@@ -27,7 +27,7 @@ use Rattle.board_rule.specs.Rule.{size_in, Counted}
 use Rattle.leaf_spans.specs.Calls.{Lies}
 use Rattle.leaf_spans.proofs.Calls.{answer_part, after_part, other_part}
 
--- a map has one key more after a call that answers New, and none more after any other
+-- a call that answers New adds one key to the map, and no other call adds any
 pub grows_by : (m : Pairs (List ℕ)) → IsMap m → (c : Call) → ((is_new (answer_of m c) ≡ 1) × (length (map_after m c) ≡ length m + 1)) ⊎ ((is_new (answer_of m c) ≡ 0) × (length (map_after m c) ≡ length m)) ⊎ ((is_new (answer_of m c) ≡ 0) × (length (map_after m c) ≤ length m))
 grows_by m up (Get key) = inr (inl (by (find m key), refl))
   where
@@ -46,7 +46,7 @@ grows_by m up (Del key) = inr (inr (by (is_some (find m key)), let h = length_wi
     by false = refl
 grows_by m up (Part from upto) = inr (inl (refl, refl))
 
--- a call of a leaf
+-- the history gets one more entry: a call on keys of one leaf's span, with the reply of the whole map
 module _ (k : Shape) (version : ℕ) (now : Anchors) (are : AreAnchors now) (log : List Entry) (e : Entry) (leaf : ℕ) (s : Span) (is : span now leaf ≡ Some s) (lies : Lies s e.call) (reply : e.reply ≡ answer_of (after log) e.call) where
   up : IsMap (after log)
   up = ascending_history log
@@ -54,7 +54,7 @@ module _ (k : Shape) (version : ℕ) (now : Anchors) (are : AreAnchors now) (log
   abbrev pub mine : Pairs (List ℕ)
   mine = inside (Some s) (after log)
 
-  -- the leaf's keys afterwards
+  -- after the entry the leaf's span holds what the call makes of the pairs that it held
   becomes : inside (span now leaf) (after (log ++ e ∷ [])) ≡ map_after mine e.call
   becomes = ap (λ o. inside o (after (log ++ e ∷ []))) is ∙ (ap (inside (Some s)) (after-push log e) ∙ sym (after_part s (after log) up e.call lies))
 
@@ -95,7 +95,7 @@ module _ (k : Shape) (version : ℕ) (now : Anchors) (are : AreAnchors now) (log
       }
 
 module _ (k : Shape) (version : ℕ) (now : Anchors) (are : AreAnchors now) (log : List Entry) (l r : ℕ) where
-  -- a leaf with too many keys is cut in halves
+  -- a split of an overfull leaf keeps the count, for the version above
   pub counted_split : 1 < k.soft → k.soft < length (inside (span now l) (after log)) → IsLegal log → span now r ≡ None → Counted k version now log → Counted k (version + 1) (with_split now l (parting (inside (span now l) (after log))) r) log
   counted_split soft many legal dead c =
       let m : Pairs (List ℕ) = after log in
@@ -122,7 +122,7 @@ module _ (k : Shape) (version : ℕ) (now : Anchors) (are : AreAnchors now) (log
       live None h = absurd (omega arith)
       live (Some s) h = refl
 
-  -- a leaf with few keys takes those of the next one
+  -- so does a merge of two neighbours that have few keys together
   pub counted_merge : k.merge_sum ≤ k.soft / 2 → k.soft < k.hard → length (inside (span now l) (after log)) + length (inside (span now r) (after log)) ≤ k.merge_sum → adjacent now l r ≡ true → Counted k version now log → Counted k (version + 1) (with_merge now r) log
   counted_merge sum wide small next c =
       let m : Pairs (List ℕ) = after log in

@@ -1,4 +1,4 @@
--- Each step keeps the rule.
+-- The rule is rebuilt after a step from what the step does to each of its parts.
 use Rattle.std.proofs.Common.{◌≡◌, ℕ, zero, suc, ◌+◌, ◌/◌, ◌^◌, ◌<◌, ◌≤◌, ◌≢◌, ◌⊎◌, List, [], ◌∷◌, map, length, get_or, set, sym, refl, ap, ◌∙◌, subst, inl, inr, ⊎_elim, arith, length-set, get_or-set_other, get_or-set_same, Option, Some, None, Bool, true, false, nat_lt, eq-eqb, le-ltb}
 use mathlib.Core.Logic.{dite}
 use mathlib.Core.Option.{some, some-injective, some-ne-none}
@@ -32,7 +32,7 @@ St = State Place View
 abbrev pub board : List ℕ → List (maybe.Option Place) → List View → St
 board ws hs vs = record { words = ws; homes = hs; views = vs }
 
--- no other view is sole, since there is another
+-- after a step of one view: if it is sole, it knows the new words, and no view beside it can be sole
 alone_set : (words words' : List ℕ) (views : List View) (id : ℕ) (v w : View) → get_elem? views id ≡ some v → ((j : ℕ) (u : View) → get_elem? views j ≡ some u → Alone words (length views) u)
     → (w.sole ≡ true → (v.sole ≡ true) × (v.words ≡ words → w.words ≡ words'))
     → (j : ℕ) (u : View) → get_elem? (set views id w) j ≡ some u → Alone words' (length (set views id w)) u
@@ -50,7 +50,7 @@ numbers_same k given views id v w at lane drawn room ended n = record {
   few = n.few;
 }
 
--- some view has seen the whole history
+-- there is a view that has seen all of the history
 abbrev pub Whole : List Entry → List View → Type 0
 Whole log views = (j : ℕ) × (v : View) × (get_elem? views j ≡ some v) × (v.seen ≡ log)
 
@@ -60,11 +60,11 @@ whole_set log log' views id v w at whole how = let mine : w.seen ≡ log' → Wh
     (λ e. mine (t.1 ∙ (ap (λ (x : View). x.seen) (some-injective v whole.1 (sym at ∙ (ap (get_elem? views) (sym e) ∙ whole.2))) ∙ (whole.3 ∙ sym t.0))))
     (λ ne. (whole.0, whole.1, set_else views id whole.0 w ne ∙ whole.2, whole.3 ∙ sym t.0))) how
 
--- the dates of the leaves
+-- for each leaf the version from which on it has its span
 abbrev pub dates : List Cell → List ℕ
 dates cells = map expected cells
 
--- a step, from what it does to each part
+-- the rule after any step of one view, where each part of it is shown on its own
 pub rebuild_all : (k : Shape) (s : St) (o : Kept k s) (id : ℕ) (v w : View) (words' : List ℕ) (homes' : List (maybe.Option Place)) (cells' : List Cell) (log' : List Entry) (now' : Anchors) (turn' : Turn)
     → get_elem? s.views id ≡ some v
     → Placed k words' homes' cells'
@@ -110,7 +110,7 @@ rebuild_all k s o id v w words' homes' cells' log' now' turn' at placed held hel
   alone = alone_set s.words words' s.views id v w at o.alone alone;
 }
 
--- a step that changes neither version nor turn, and no date
+-- the same for a step that leaves the version, the turn, the leaves' dates, the pins and the spare table
 pub rebuild : (k : Shape) (s : St) (o : Kept k s) (id : ℕ) (v w : View) (words' : List ℕ) (homes' : List (maybe.Option Place)) (cells' : List Cell) (log' : List Entry)
     → get_elem? s.views id ≡ some v
     → Placed k words' homes' cells'
@@ -141,7 +141,7 @@ rebuild k s o id v w words' homes' cells' log' at placed held held_else legal nu
     (λ j u _ _ h. subst (λ x. CurrentOk x o.now u) (sym version) h)
     seats numbers rises lasting alone
 
--- a load that is a look, and changes no part
+-- a plain load is kept as a look, and changes nothing else
 pub unmoved : (k : Shape) (s : St) (o : Kept k s) (id word : ℕ) (v : View) → get_elem? s.views id ≡ some v
     → Kept k (board (set s.words word (get_or s.words word 0)) s.homes (set s.views id (looked word (get_or s.words word 0) v)))
 unmoved k s o id word v at = let w : View = looked word (get_or s.words word 0) v in
@@ -156,7 +156,7 @@ pub bit_le : (b : Bool) → bit b ≤ 1
 bit_le true = omega arith
 bit_le false = omega arith
 
--- the number of a lane is with one view
+-- no other view has the number of this view's lane, in any way
 pub lone : (k : Shape) (given : ℕ) (views : List View) (id j lane : ℕ) (v u : View) → Numbers k given views → get_elem? views id ≡ some v → get_elem? views j ≡ some u → j ≢ id → v.lane ≡ Some lane → has_number lane u ≡ 0
 lone k given views id j lane v u n at e other is =
     let mine : is_some lane v.lane ≡ 1 = ap (is_some lane) is ∙ ap bit (eq-eqb lane lane refl) in
@@ -165,7 +165,7 @@ lone k given views id j lane v u n at e other is =
     let one = bit_le (nat_lt lane given) in
     omega arith
 
--- a lane's number is given, and its view has not drawn it
+-- the number is among those given, and the view has it neither as one drawn nor as one ended into it
 pub lone_self : (k : Shape) (given : ℕ) (views : List View) (id lane : ℕ) (v : View) → Numbers k given views → get_elem? views id ≡ some v → v.lane ≡ Some lane → (is_some lane v.drawn ≡ 0) × (lane < given) × (times lane v.ended ≡ 0)
 lone_self k given views id lane v n at is =
     let mine : is_some lane v.lane ≡ 1 = ap (is_some lane) is ∙ ap bit (eq-eqb lane lane refl) in
@@ -194,11 +194,11 @@ high_word k i low words n h = get_or-set_other words (leaf_word k i) low n 0 (λ
 pub shares_same : (now : Anchors) (log : List Entry) (cells : List Cell) (i : ℕ) (c c' : Cell) → get_elem? cells i ≡ some c → map_of c' ≡ map_of c → Shares now log cells → Shares now log (set cells i c')
 shares_same now log cells i c c' at same h = each_set (λ j d. map_of d ≡ inside (span now j) (after log)) cells i c' (same ∙ h i c at) (λ j d _ e. h j d e)
 
--- the dates stay where a cell keeps its own
+-- a new cell for a leaf changes no date, if it has the old one's date
 pub dates_same : (cells : List Cell) (i : ℕ) (c c' : Cell) → get_elem? cells i ≡ some c → expected c' ≡ expected c → dates (set cells i c') ≡ dates cells
 dates_same cells i c c' at same = map-set expected cells i c' ∙ set_again (map expected cells) i (expected c') (at_map expected cells i c at ∙ ap some (sym same))
 
--- a step on the leaf i, whose cell becomes c', with the same map and history
+-- the rule after a step that gives the leaf i the cell c' in place of c, with the same map and date, and adds no entry
 pub releafed : (k : Shape) (s : St) (o : Kept k s) (id i n : ℕ) (v w : View) (c c' : Cell) (homes' : List (maybe.Option Place)) → get_elem? s.views id ≡ some v → i < k.leaves → get_elem? o.cells i ≡ some c
     → CellOk k c' → n ≡ word_of c' → map_of c' ≡ map_of c → LaneIs id v.lane c' → ((j : ℕ) → j ≢ id → mine j c' ≡ mine j c) → ((j : ℕ) (u : View) → j ≢ id → LaneIs j u.lane c') → SeatBelow (length s.views) c' → expected c' ≡ expected c → Dated (get_or s.words 0 0) o.turn c' → w.notes ≡ v.notes → w.turn ≡ v.turn → w.current ≡ v.current → w.pin ≡ v.pin → w.spare ≡ v.spare
     → homes' ≡ set s.homes i (home_of c')

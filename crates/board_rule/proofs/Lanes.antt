@@ -1,4 +1,4 @@
--- The steps that give numbers, and that cut and join views.
+-- The rule is kept where a number is drawn for a lane, and where a view is split, copied or joined into another.
 use Rattle.std.proofs.Common.{◌≡◌, ℕ, zero, suc, ◌+◌, ◌%◌, ◌^◌, ◌<◌, ◌≤◌, eqb, cond, ◌≢◌, ◌⊎◌, List, [], ◌∷◌, ◌++◌, map, length, get_or, set, sym, refl, ap, ◌∙◌, subst, inl, inr, ⊎_elim, arith, length-set, get_or-set_other, get_or-set_same, Option, Some, None, true, false, true≢false, eq-eqb, ne_eqb, lt-ltb, le-ltb, length-append, ◌-◌, nat_lt}
 use Rattle.std.proofs.lemmas.List.{append-nil}
 use mathlib.Core.Logic.{dite}
@@ -102,7 +102,7 @@ length-mine (c ∷ cells) j = ap suc (length-mine cells j)
 off : false ≡ true → ⊥
 off e = true≢false (sym e)
 
--- where there is another view, none is sole
+-- a view that stands beside another isn't sole
 others_not : (words : List ℕ) (views : List View) (id j : ℕ) (v u : View) → get_elem? views id ≡ some v → get_elem? views j ≡ some u → j ≢ id → Alone words (length views) u → u.sole ≡ true → ⊥
 others_not words views id j v u at e other alone sole = let one = (alone sole).0 in let a = at_below views id v at in let b = at_below views j u e in other (omega arith)
 
@@ -113,7 +113,7 @@ not_yet (Some t) n h = let x = h t refl in ne_eqb t.0 n (λ e. omega arith)
 no_turn : (turn : Turn) (j : ℕ) (t : ℕ × ℕ) → has_turn j turn ≡ false → turn ≡ Some t → t.0 ≡ j → ⊥
 no_turn turn j t e is same = let a : has_turn j (Some t) ≡ true = eq-eqb t.0 j same in true≢false (sym a ∙ (sym (ap (has_turn j) is) ∙ e))
 
--- a seat that isn't there has cleared no table, nor has one without the turn
+-- nothing is cleared by the seat that a new view will get, and nothing by a seat without the turn
 fresh_spare : (k : Shape) (words : List ℕ) (homes : List (maybe.Option Place)) (now : Rattle.anchor_rules.specs.Anchors.Anchors) (views : List View) (lag : Lagging) → LagIs k words homes now views lag → spare_at (length views) lag ≡ None
 fresh_spare k words homes now views (behind S c) l = refl
 fresh_spare k words homes now views (clearing seat sp) l = spare_else (length views) seat sp (λ e. let z = l.in_range in omega arith)
@@ -180,7 +180,7 @@ splits_as k id v number dr r apart sum-drawn sum-room given-drawn kept-drawn s o
       alone = each_split (λ _ u. Alone s.words (length views') u) s.views id w y (λ e. absurd (off e)) (λ j u other e sole. absurd (others_not s.words s.views id j v u at e other (o.alone j u e) sole)) (λ e. absurd (off e));
     }
 
--- the number that a view drew goes to a new view
+-- a split by which a new view gets the number that this one drew
 pub splits_view : (k : Shape) (id : ℕ) (v : View) (d : ℕ) → v.drawn ≡ Some d → 0 < v.room → Splits (Kept k) id v (kept_half v.drawn v) (new_half v.drawn v)
 splits_view k id v d is room = subst (λ (z : Option ℕ). Splits (Kept k) id v (kept_half z v) (new_half z v)) (sym is)
     (splits_as k id v (Some d) None (v.room - 1) (λ x. let z = ap (is_some x) is in omega arith) (let z = ap counts is in omega arith) (omega arith) (λ l e. is ∙ e) (λ l e. absurd (cc)))
@@ -217,7 +217,7 @@ at_option None i x e = absurd (some-ne-none x (sym e))
 at_option (Some m) zero x e = ap Some (some-injective m x e)
 at_option (Some m) (suc i) x e = absurd (some-ne-none x (sym e))
 
--- the longer of two beginnings
+-- what holds of either history where it isn't the shorter holds of the longer one
 longer_is : (P : List Entry → Type 0) (a b : List Entry) → (length b ≤ length a → P a) → (length a ≤ length b → P b) → P (longer a b)
 longer_is P a b f g = dite (dec_le (suc (length a)) (length b))
     (λ lt. subst (λ t. P (cond t b a)) (sym (lt-ltb (length a) (length b) lt)) (g (omega arith)))

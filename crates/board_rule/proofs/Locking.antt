@@ -109,7 +109,7 @@ locks k n id m leaf word before lane near is no-holder mine-lane small s o wide 
     later true v e h = omega arith
     later false v e h = h
 
--- a load that moves the place of a leaf which the seat holds
+-- the rule after a load that goes with a move of a held leaf's content, into its place or out of it
 respotted : (k : Shape) (s : St) (o : Kept k s) (id leaf word : ℕ) (v : View) (h : Holding) (spot : Spot) → get_elem? s.views id ≡ some v → leaf < k.leaves → word ≡ leaf_word k leaf → held_at v leaf ≡ Some h
     → Kept k (board (set s.words word (get_or s.words word 0)) (set s.homes leaf (place_of spot)) (set s.views id (holding leaf (Some (spotted spot h)) v)))
 respotted k s o id leaf word v h spot at near is has =
@@ -145,7 +145,7 @@ puts k n id m leaf word h spot place more near is has goes carried s o wide at _
   λ i. (holding leaf (Some (spotted spot h)) m.0, rest (carried i)),
 )
 
--- the seat gives the leaf back, with no call
+-- an unlock that adds no entry to the history
 unlocks_none : (k : Shape) (n id : ℕ) (m : Sat) (leaf word new lane : ℕ) (h : Holding) (content : Content) (x : ℕ) (A : Anchors) → leaf < k.leaves → word ≡ leaf_word k leaf → new % 256 ≡ 0 → new / 256 ≡ h.word / 256 → held_at m.0 leaf ≡ Some h → h.spot ≡ at_home content
     → Gives k h None content → HasNote m.0 x A → h.word / 256 ≤ x → Allows (Kept k) n id m word (λ _. new) (Unlocks word leaf new lane None m)
 unlocks_none k n id m leaf word new lane h content x A near is bare date has spot gives-back noted le s o wide at _ =
@@ -163,7 +163,7 @@ unlocks_none k n id m leaf word new lane h content x A near is bare date has spo
     (λ sole. (sole, λ e. ap (λ ws. set ws word new) e ∙ ap (λ i. set s.words i new) is)) in
     (w, keeps, tt, subst (λ i. Kept k (board (set s.words i new) s.homes (set s.views id w))) (sym is) moved, refl)
 
--- the seat gives the leaf back, with a call of a key in its span
+-- an unlock that adds its lane's call, on keys of the leaf's span, at the history's end
 unlocks_some : (k : Shape) (n id : ℕ) (m : Sat) (leaf word new lane : ℕ) (h : Holding) (content : Content) (d : Call × Reply) (x : ℕ) (A : Anchors) (sp : Span) → leaf < k.leaves → word ≡ leaf_word k leaf → new % 256 ≡ 0 → new / 256 ≡ h.word / 256
     → m.0.lane ≡ Some lane → held_at m.0 leaf ≡ Some h → h.spot ≡ at_home content → Gives k h (Some d) content → HasNote m.0 x A → h.word / 256 ≤ x → span A leaf ≡ Some sp → Lies sp d.0
     → Allows (Kept k) n id m word (λ _. new) (Unlocks word leaf new lane (Some d) m)

@@ -1,4 +1,4 @@
--- Lists that grow by one.
+-- The words and places of a new board as they are pushed one by one, and the rule of the whole.
 use Rattle.std.proofs.Common.{◌≡◌, ℕ, zero, suc, ◌+◌, ◌<◌, List, [], ◌∷◌, ◌++◌, length, length-append, ◌≤◌, map, replicate, take, get_or, append_assoc, sym, refl, ap, ◌∙◌, subst, arith, ⊎_elim}
 use Rattle.std.proofs.lemmas.List.{take_all}
 use mathlib.Core.Option.{some, some-ne-none}

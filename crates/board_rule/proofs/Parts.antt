@@ -1,4 +1,4 @@
--- What a step on one leaf does to each part of the rule.
+-- How a leaf's cell ties its word, its place and its holder's view, and how these change with it.
 use Rattle.std.proofs.Common.{◌≡◌, ℕ, zero, suc, ◌%◌, ◌<◌, cond, ◌≢◌, List, [], ◌∷◌, map, get_or, set, sym, refl, ap, ◌∙◌, subst, arith, length-set, get_or-set_other, get_or-set_same, eq-eqb, ne_eqb, Option, Some, None, IsSome}
 use mathlib.Core.Logic.{dite}
 use mathlib.Core.Option.{some, some-injective, some-ne-none}
@@ -20,7 +20,7 @@ get_or_at [] i d a e = absurd (some-ne-none a (sym e))
 get_or_at (x ∷ xs) zero d a e = some-injective x a e
 get_or_at (x ∷ xs) (suc i) d a e = get_or_at xs i d a e
 
--- the cell i becomes c
+-- the leaf i gets the cell c, with its word and its place, and all else stays placed
 pub placed_move : (k : Shape) (words : List ℕ) (homes : List (maybe.Option Place)) (cells : List Cell) (i n : ℕ) (c : Cell) → Placed k words homes cells → i < k.leaves → CellOk k c → n ≡ word_of c
     → Placed k (set words (leaf_word k i) n) (set homes i (home_of c)) (set cells i c)
 placed_move k words homes cells i n c p near ok is = record {
@@ -36,7 +36,7 @@ placed_move k words homes cells i n c p near ok is = record {
   cells_ok = each_set (λ _ d. CellOk k d) cells i c ok (λ j d _ e. p.cells_ok j d e);
 }
 
--- the place of the leaf stays as it is
+-- a new cell whose content is where the old one's was leaves the places as they are
 pub home_stays : (k : Shape) (words : List ℕ) (homes : List (maybe.Option Place)) (cells : List Cell) (i : ℕ) (c c' : Cell) → Placed k words homes cells → get_elem? cells i ≡ some c → home_of c' ≡ home_of c → set homes i (home_of c') ≡ homes
 home_stays k words homes cells i c c' p at same = set_again homes i (home_of c') (p.leaf_homes i c at ∙ ap some (sym same))
 
@@ -62,14 +62,14 @@ pub is_free : (k : Shape) (c : Cell) → CellOk k c → word_of c % 256 ≡ 0 �
 is_free k (free word m) ok e = (m, refl, ok.1)
 is_free k (taken seat lane h) ok e = absurd (omega arith)
 
--- the cell of which the view of the seat j has h
+-- where the seat j has h of a cell, that cell is taken by it
 pub is_taken : (j : ℕ) (c : Cell) (h : Holding) → mine j c ≡ Some h → (lane : ℕ) × (c ≡ taken j lane h)
 is_taken j (free word m) h e = absurd (cc)
 is_taken j (taken seat lane g) h e = dite (ℕ_discrete seat j)
     (λ same. let e' : Some g ≡ Some h = sym (ap (λ b. cond b (Some g) None) (eq-eqb seat j same)) ∙ e in let is : g ≡ h = cc in (lane, λ x. taken (same x) lane (is x)))
     (λ ne. let e' : None ≡ Some h = sym (mine_other j seat lane g ne) ∙ e in absurd (cc))
 
--- the cell of a leaf that a view holds
+-- a leaf that a view holds has a cell taken by the view's seat, with just what the view has of it
 pub held_cell : (k : Shape) (words : List ℕ) (homes : List (maybe.Option Place)) (cells : List Cell) (j leaf : ℕ) (v : View) (h : Holding) → Placed k words homes cells → Holds cells j v → leaf < k.leaves
     → get_or v.held leaf None ≡ Some h → (lane : ℕ) × (get_elem? cells leaf ≡ some (taken j lane h))
 held_cell k words homes cells j leaf v h p holds near has =
@@ -88,7 +88,7 @@ set_twice [] i x y = refl
 set_twice (z ∷ zs) zero x y = refl
 set_twice (z ∷ zs) (suc i) x y = ap (λ l. z ∷ l) (set_twice zs i x y)
 
--- the place of a held leaf moved twice
+-- after two moves of a held leaf's content the view is as after the second alone
 pub moved_twice : (v m : View) (leaf : ℕ) (h : Holding) (a b : Spot) → held_at v leaf ≡ Some h → m ≡ holding leaf (Some (spotted a h)) v
     → (held_at m leaf ≡ Some (spotted a h)) × (holding leaf (Some (spotted b (has m leaf))) m ≡ holding leaf (Some (spotted b h)) v)
 moved_twice v m leaf h a b e is =
@@ -100,7 +100,7 @@ pub some_of : (o : Option ℕ) → IsSome o → (d : ℕ) × (o ≡ Some d)
 some_of None e = absurd (cc)
 some_of (Some d) e = (d, refl)
 
--- a word below the leaves' words
+-- a new value of one of the five words in front touches no leaf
 pub placed_low : (k : Shape) (words : List ℕ) (homes : List (maybe.Option Place)) (cells : List Cell) (i n : ℕ) → i < 5 → Placed k words homes cells → Placed k (set words i n) homes cells
 placed_low k words homes cells i n low p = record {
   wide = length-set words i n ∙ p.wide;

@@ -1,4 +1,4 @@
--- The steps on pins, on the words of the spare table and on the lag record.
+-- The rule is kept by pins and their checks, by loads and stores of row words, and by moves of the lag record.
 use Rattle.std.proofs.Common.{◌≡◌, ◌≢◌, ◌⊎◌, ℕ, zero, suc, ◌+◌, ◌-◌, ◌*◌, ◌%◌, ◌^◌, ◌<◌, ◌≤◌, eqb, nat_lt, cond, List, [], ◌∷◌, ◌++◌, length, length-drop, drop, get_or, set, sym, refl, ap, ◌∙◌, subst, arith, length-set, get_or-set_other, get_or-set_same, Option, Some, None, Bool, true, false, true≢false, eq-eqb, ne_eqb, inl, inr, mul-le-mul_right}
 use Rattle.std.proofs.lemmas.List.{length-take-le}
 use mathlib.Core.Logic.{dite}
@@ -31,7 +31,7 @@ use Rattle.board_rule.proofs.Finding.{finds_version}
 use Rattle.board_rule.proofs.Soles.{sole_total}
 use Rattle.board_rule.proofs.Turning.{notes_more, turn_of}
 
--- a table in the words has as many words as the shape says
+-- the words hold both tables whole, each as long as the shape says
 pub wide_rows : (k : Shape) (words : List ℕ) (t : ℕ) → length words ≡ word_count k → t < 2 → length (rows_of k words t) ≡ row_count k
 wide_rows k words t long low =
     let n : ℕ = row_count k in
@@ -42,7 +42,7 @@ wide_rows k words t long low =
 pub table_end : (k : Shape) (version word : ℕ) → word < table_at k (version % 2) + row_count k → word < word_count k
 table_end k version word upto = let b : (version % 2) * row_count k ≤ 1 * row_count k = mul-le-mul_right (row_count k) (omega arith) in omega arith
 
--- no more pins than lanes
+-- only views with lanes pin, so that a table has 64 pins at most
 pins_few : (k : Shape) (s : St) (o : Kept k s) (t : ℕ) → total (λ (v : View). pin_on t v.pin) s.views ≤ 64
 pins_few k s o t =
     let given : ℕ = get_or s.words GIVEN 0 in
@@ -68,7 +68,7 @@ pins_few k s o t =
     laned (Some l) u h e = let z = ap counts e in let low = h l e in let a = sum_to_one (λ i. has_number i u) (get_or s.words GIVEN 0) l low in
         let b : is_some l u.lane ≡ 1 = ap (is_some l) e ∙ ap bit (eq-eqb l l refl) in omega arith
 
--- the words and places of leaves stay
+-- words and places stay placed where those of the leaves are the same
 placed_words : (k : Shape) (words words' : List ℕ) (homes homes' : List (maybe.Option Place)) (cells : List Cell) → length words' ≡ length words → length homes' ≡ length homes
     → ((i : ℕ) → i < k.leaves → get_or words' (leaf_word k i) 0 ≡ get_or words (leaf_word k i) 0) → ((i : ℕ) → i < k.leaves → get_elem? homes' i ≡ get_elem? homes i) → Placed k words homes cells → Placed k words' homes' cells
 placed_words k words words' homes homes' cells long slots same home p = record {
@@ -80,7 +80,7 @@ placed_words k words words' homes homes' cells long slots same home p = record {
   cells_ok = p.cells_ok;
 }
 
--- a step on pins or tables: all other parts stay
+-- the rule after a step on tables or pins, which touches no leaf, lane or entry of the history
 pub tabled : (k : Shape) (s : St) (o : Kept k s) (id : ℕ) (v w : View) (words' : List ℕ) (homes' : List (maybe.Option Place)) → get_elem? s.views id ≡ some v → length words' ≡ length s.words → length homes' ≡ length s.homes
     → ((i : ℕ) → i < k.leaves → get_or words' (leaf_word k i) 0 ≡ get_or s.words (leaf_word k i) 0) → ((i : ℕ) → i < k.leaves → get_elem? homes' i ≡ get_elem? s.homes i)
     → get_or words' 0 0 ≡ get_or s.words 0 0 → get_or words' 1 0 ≡ get_or s.words 1 0 → get_or words' GIVEN 0 ≡ get_or s.words GIVEN 0
@@ -106,7 +106,7 @@ tabled k s o id v w words' homes' at long slots leaves places version turn-word 
     (subst (λ x. CurrentOk x o.now w) (sym version) current) (λ j u _ _ q. subst (λ x. CurrentOk x o.now u) (sym version) q)
     o.seats (subst (λ x. Numbers k x (set s.views id w)) (sym given) (numbers_same k _ s.views id v w at lane drawn room ended o.numbers)) (rises_kept k s.words words' version given leaves) lasting alone
 
--- the pins word of a table changes with the pin of a view, which is not checked
+-- the count of pins on a table follows a view that pins or unpins it, and has no valid pin afterwards
 pinned_tables : (k : Shape) (words : List ℕ) (homes : List (maybe.Option Place)) (now : Anchors) (views : List View) (id : ℕ) (v w : View) (t n : ℕ) → 5 ≤ length words → get_elem? views id ≡ some v → t < 2 → n + pin_on t v.pin ≡ get_or words (PINS + t) 0 + pin_on t w.pin
     → ((x : ℕ) → x ≢ t → pin_on x w.pin ≡ pin_on x v.pin) → ((p : Pin) → w.pin ≡ Some p → p.checked ≡ None) → ((p : Pin) → w.pin ≡ Some p → PinPlaced w.lane p) → w.spare ≡ v.spare → w.turn ≡ v.turn → Tables k words homes now views → Tables k (set words (PINS + t) n) homes now (set views id w)
 pinned_tables k words homes now views id v w t n long at low count others un placed spare turn tb =
@@ -197,7 +197,7 @@ unpins k n id m t lane pin has is-table mine-lane s o wide at bound =
     no_pin : (q : Pin) → None ≡ Some q → ⊥
     no_pin q e = absurd (cc)
 
--- the tables under a load after which a view may have a checked pin
+-- a load that makes a view's pin valid, or changes none, keeps what is so of the tables
 looked_tables : (k : Shape) (words : List ℕ) (homes : List (maybe.Option Place)) (now : Anchors) (views : List View) (id : ℕ) (v w : View) → get_elem? views id ≡ some v → ((x : ℕ) → pin_on x w.pin ≡ pin_on x v.pin) → PinIs k words (get_or words 0 0) w
     → ((p : Pin) → w.pin ≡ Some p → PinPlaced w.lane p) → ((p : Pin) (x : Anchors × List ℕ) → w.pin ≡ Some p → p.checked ≡ Some x → p.table ≢ (get_or words 0 0 + 1) % 2)
     → w.spare ≡ v.spare → w.turn ≡ v.turn → Tables k words homes now views → Tables k words homes now (set views id w)
@@ -252,7 +252,7 @@ checks k n id m p has s o wide at _ =
 no_terms : {A : Type 0} (f : A → ℕ) (l : List A) (i : ℕ) (a : A) → total f l ≡ 0 → get_elem? l i ≡ some a → f a ≡ 0
 no_terms f l i a e at = let h = term_le f l i a at in omega arith
 
--- where a view has the turn and has not cleared, the lag record is in its place
+-- a view with the turn that has cleared nothing finds the spare table one change behind, and the lag record in its place
 the_lag : (k : Shape) (s : St) (o : Kept k s) (id : ℕ) (v : View) → get_elem? s.views id ≡ some v → v.turn ≡ true → v.spare ≡ None → (S : Anchors) × (c : Lag) × Behind k s.words s.homes o.now S c
 the_lag k s o id v at mine bare = by o.tables.lag (sym bare ∙ o.tables.spares id v at) o.tables.lag_is
   where
@@ -264,7 +264,7 @@ the_lag k s o id v at mine bare = by o.tables.lag (sym bare ∙ o.tables.spares 
         let holder = turn_of o.turn id (sym (o.turns id v at).0 ∙ mine) in
         absurd (true≢false (sym (l.turn t.0 t.1) ∙ ((o.turns seat t.0 t.1).0 ∙ (ap (has_turn seat) holder.1 ∙ ne_eqb id seat (λ e. ne (sym e)))))))
 
--- the views' pins and the words stay, and this seat keeps the spare table so
+-- one seat, and no other, keeps the cleared spare table, on which there is no valid pin
 clearing_tables : (k : Shape) (words : List ℕ) (homes homes' : List (maybe.Option Place)) (now : Anchors) (views : List View) (id : ℕ) (v w : View) (sp : Spare) → get_elem? views id ≡ some v → w.pin ≡ v.pin → w.lane ≡ v.lane → w.turn ≡ true → w.spare ≡ Some sp
     → rows_of k words ((get_or words 0 0 + 1) % 2) ≡ sp.rows → get_elem? homes' k.leaves ≡ some (lag_place sp.lag) → ((j : ℕ) (u : View) → j ≢ id → get_elem? views j ≡ some u → u.spare ≡ None)
     → ((j : ℕ) (u : View) (p : Pin) (x : Anchors × List ℕ) → get_elem? views j ≡ some u → u.pin ≡ Some p → p.checked ≡ Some x → p.table ≢ (get_or words 0 0 + 1) % 2) → Tables k words homes now views → Tables k words homes' now (set views id w)
@@ -339,7 +339,7 @@ clears k n id m t version A current bare is s o wide at _ =
             absurd (true≢false (sym (l.turn u (ap (get_elem? s.views) same ∙ a)) ∙ ((o.turns j u a).0 ∙ (ap (has_turn j) holder.1 ∙ ne_eqb id j (λ f. other (sym f)))))))
             (λ ne. e ∙ spare_else j seat sp ne)
 
--- what is so of the tables where this seat has cleared
+-- a view that keeps a spare table is the one that cleared it, and no other view keeps one
 mine_cleared : (k : Shape) (s : St) (o : Kept k s) (id : ℕ) (v : View) (sp : Spare) → get_elem? s.views id ≡ some v → v.spare ≡ Some sp → Clearing k s.words s.homes s.views id sp × ((j : ℕ) (u : View) → j ≢ id → get_elem? s.views j ≡ some u → u.spare ≡ None)
 mine_cleared k s o id v sp at has =
     let is = cleared_by id o.tables.lag sp (sym (o.tables.spares id v at) ∙ has) in (
@@ -347,7 +347,7 @@ mine_cleared k s o id v sp at has =
       λ j u other a. o.tables.spares j u a ∙ (ap (spare_at j) is ∙ spare_else j id sp (λ e. other (sym e))),
     )
 
--- the lag record's place is taken, and given back
+-- the rule after a load that goes with a move of the lag record, by the view that cleared the spare table
 relagged : (k : Shape) (s : St) (o : Kept k s) (id word : ℕ) (v : View) (sp : Spare) (spot : LagSpot) → get_elem? s.views id ≡ some v → v.spare ≡ Some sp
     → Kept k (board (set s.words word (get_or s.words word 0)) (set s.homes k.leaves (lag_place spot)) (set s.views id (lagged spot sp v)))
 relagged k s o id word v sp spot at has =
@@ -375,7 +375,7 @@ lag_puts k n id word m sp spot place more has goes carried s o wide at _ = (
   λ i. (lagged spot sp m.0, rest (carried i)),
 )
 
--- a word of the spare table is written by the view that has cleared it
+-- a store into the spare table, by the view that cleared it, changes the same word of the rows that the view keeps
 pub writes : (k : Shape) (n id : ℕ) (m : Sat) (t version i word x : ℕ) (A : Anchors) (sp : Spare) → m.0.current ≡ Some (version, A) → t ≡ (version + 1) % 2 → m.0.spare ≡ Some sp → i < row_count k → word ≡ table_at k t + i
     → Allows (Kept k) n id m word (λ _. x) (λ _ n. n ≡ (written word i x sp m.0, m.1))
 writes k n id m t version i word x A sp current is has near place s o wide at _ =
@@ -426,7 +426,7 @@ writes k n id m t version i word x A sp current is has near place s o wide at _ 
     far zero t lt lt' ne = let e : t ≡ 1 = omega arith in let z = ap (λ (q : ℕ). q * row_count k) e in inr (omega arith)
     far (suc y) t lt lt' ne = let e : y ≡ 0 = omega arith in let f : t ≡ 0 = omega arith in let z = ap (λ (q : ℕ). q * row_count k) f in let a = ap (λ (q : ℕ). suc q * row_count k) e in inl (omega arith)
 
--- a word of a table is read under a valid pin, or of the spare table by the view that has cleared it
+-- a load of a row word finds what the view keeps of that table, under a valid pin or once it has cleared it
 pub reads : (k : Shape) (n id : ℕ) (m : Sat) (word : ℕ) → Allows (Kept k) n id m word (λ x. x) (Reads k word m)
 reads k n id m word s o wide at _ =
     let v : View = m.0 in

@@ -1,4 +1,4 @@
--- The publish of a change: a split or a merge.
+-- The rule is kept where a version is published, by which one leaf is split or two are merged.
 use Rattle.std.proofs.Common.{◌≡◌, ◌≢◌, ℕ, ◌+◌, ◌/◌, ◌<◌, ◌≤◌, List, [], ◌∷◌, ◌++◌, length, get_or, set, take, drop, sym, refl, ap, ◌∙◌, subst, inr, arith, get_or-set_other, get_or-set_same, Option, Some, None, true, false, true≢false, is_some, ne_eqb}
 use mathlib.Core.Option.{some, some-injective}
 use lib.ListN.{get_elem?}
@@ -34,7 +34,7 @@ use Rattle.board_rule.proofs.Parts.{mine_same, mine_other, holds_mine, holds_els
 use Rattle.board_rule.proofs.Keeps.{St, board, dates, rebuild_all, numbers_same, dates_same}
 use Rattle.board_rule.proofs.Turning.{note_is, notes_more, turn_of, placed_same, dated_on}
 
--- a new version, in which only the leaves l and r have other spans and maps
+-- the rule after a publish by which just the held leaves l and r get new spans and maps
 published_kept : (k : Shape) (s : St) (o : Kept k s) (id : ℕ) (v : View) (version new : ℕ) (A : Anchors) (c : Lag) (sp : Spare) (l r : ℕ) (ml mr : Map) (h g : Holding) → get_elem? s.views id ≡ some v
     → l < k.leaves → r < k.leaves → r ≢ l → v.current ≡ Some (version, A) → new ≡ version + 1 → held_at v l ≡ Some h → held_at v r ≡ Some g → h.word / 256 ≡ version + 1 → g.word / 256 ≡ version + 1
     → v.spare ≡ Some sp → sp.lag ≡ lag_home c → StandsFor k sp.rows (turned A c) → CanTurn o.now c
@@ -106,7 +106,7 @@ published_kept k s o id v version new A c sp l r ml mr h g at near-l near-r apar
     (λ sole. (sole, λ e. ap (λ t. set t 0 new) e)) in
     subst (λ z. Kept k (board ws s.homes (set s.views id (published new (turned z c) l r ml mr h g v)))) (sym cur.1) moved
 
--- the lag record's change is published
+-- the change that the lag record names makes the next version: a split or a merge, since there is no other
 pub publishes : (k : Shape) → IsShape k → (n id : ℕ) (m : Sat) (new : ℕ) (c : Lag) (sp : Spare) → Publishable k m.0 c sp → new ≡ current m.0 + 1 → Allows (Kept k) n id m 0 (λ _. new) (Publishes new c m)
 publishes k ok n id m new c sp can next s o wide at _ = (changed new c m.0, keeps, tt, by c can, refl)
   where

@@ -1,4 +1,4 @@
--- The rule holds of a new board.
+-- The rule at the beginning: one view, one live leaf without keys, and both tables alike.
 use Rattle.std.proofs.Common.{◌≡◌, ℕ, zero, suc, ◌+◌, ◌*◌, ◌/◌, ◌<◌, ◌≤◌, List, [], ◌∷◌, ◌++◌, map, length, length-append, replicate, get_or, take, drop, sym, refl, ap, ◌∙◌, subst, arith, ◌%◌, Bool, eqb, cond, eq-eqb, ne_eqb, lt-ltb, Option, Some, None}
 use Rattle.std.proofs.lemmas.List.{get_or-replicate, length-replicate, drop-drop, take_all}
 use mathlib.Core.Logic.{dite}

@@ -1,4 +1,4 @@
--- Sums over lists that change at one place, and lists read by place.
+-- Lists of which an element or two are set, or one is added: what holds of each element, and sums over all.
 use Rattle.std.proofs.Common.{◌≡◌, ℕ, zero, suc, ◌+◌, ◌<◌, ◌≤◌, ◌≢◌, ◌⊎◌, List, [], ◌∷◌, ◌++◌, length, set, sym, refl, ap, ◌∙◌, subst, inl, inr, ⊎_elim, arith, length-set}
 use mathlib.Core.Logic.{dite}
 use native.Mathlib.Decide.{ℕ_discrete}
@@ -13,7 +13,7 @@ module _ {A : Type 0} where
   at_below (x ∷ xs) zero a e = omega arith
   at_below (x ∷ xs) (suc i) a e = let h = at_below xs i a e in omega arith
 
-  -- what holds at each place holds after a change of one place
+  -- setting one element keeps what holds of each, if it holds of the new one
   pub each_set : (P : ℕ → A → Type 0) (l : List A) (i : ℕ) (y : A) → P i y → ((j : ℕ) (x : A) → j ≢ i → get_elem? l j ≡ some x → P j x) → (j : ℕ) (x : A) → get_elem? (set l i y) j ≡ some x → P j x
   each_set P l i y here others j x e =
       ⊎_elim (λ (t : (j ≡ i) × (y ≡ x)). subst (λ (z : ℕ × A). P z.0 z.1) (λ c. (sym t.0 c, t.1 c)) here) (λ (t : (j ≢ i) × (get_elem? l j ≡ some x)). others j x t.0 t.1) (at_set l i j y x e)
@@ -75,7 +75,7 @@ module _ {A : Type 0} (f g : A → ℕ) where
   total_le [] all = omega arith
   total_le (x ∷ xs) all = let a = all 0 x refl in let b = total_le xs (λ j y e. all (suc j) y e) in omega arith
 
--- a sum over the numbers below g
+-- the sum of f over the numbers below n
 abbrev pub sum_to : (ℕ → ℕ) → ℕ → ℕ
 sum_to f zero = 0
 sum_to f (suc n) = sum_to f n + f n
@@ -96,7 +96,7 @@ pub sum_to_nil : (n : ℕ) → sum_to (λ _. 0) n ≡ 0
 sum_to_nil zero = refl
 sum_to_nil (suc n) = omega (arith, sum_to_nil n)
 
--- counted by what has them, and by the numbers
+-- if c is at most the sum of h below n for each element, it is so for all together, where h is summed number by number
 pub counted_twice : {A : Type 0} (h : ℕ → A → ℕ) (c : A → ℕ) (n : ℕ) (l : List A) → ((j : ℕ) (x : A) → get_elem? l j ≡ some x → c x ≤ sum_to (λ i. h i x) n) → total c l ≤ sum_to (λ i. total (h i) l) n
 counted_twice h c n [] all = omega (arith, sum_to_nil n)
 counted_twice h c n (x ∷ xs) all = let a = all 0 x refl in let b = counted_twice h c n xs (λ j y e. all (suc j) y e) in omega (arith, sum_to_add (λ i. h i x) (λ i. total (h i) xs) n)

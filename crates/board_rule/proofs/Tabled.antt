@@ -1,4 +1,4 @@
--- The part of the rule on tables, under steps that leave their words, and under a publish.
+-- What the rule says of tables, pins and the lag record, after steps elsewhere, after a publish and where the turn is given.
 use Rattle.std.proofs.Common.{◌≡◌, ◌≢◌, ◌⊎◌, ℕ, ◌+◌, ◌-◌, ◌%◌, ◌<◌, ◌≤◌, List, length, length-set, get_or, set, take, drop, sym, refl, ap, ◌∙◌, subst, arith, cond, eq-eqb, ne_eqb, Some, None, true, get_or-set_other, inl, ⊎_elim}
 use Rattle.std.proofs.lemmas.List.{take-set-le, drop-set-lt, drop-set-add, get_or-drop, get_or-take}
 use Rattle.std.proofs.Math.Seq.{take-set-lt}
@@ -31,7 +31,7 @@ segment_in words first n i x h = ap (take n) (drop-set-add first words i x) ∙ 
 pub segment_at : (words : List ℕ) (first n i : ℕ) → i < n → get_or (segment words first n) i 0 ≡ get_or words (first + i) 0
 segment_at words first n i h = get_or-take n (drop first words) i 0 h ∙ get_or-drop first words i 0
 
--- the words of tables, pins and version are the same
+-- the two lists of words agree in the version, in the counts of pins and in both tables
 pub record Agrees (k : Shape) (words words' : List ℕ) : Type 0 where
   pub version : get_or words' 0 0 ≡ get_or words 0 0
   pub pins : (t : ℕ) → t < 2 → get_or words' (PINS + t) 0 ≡ get_or words (PINS + t) 0
@@ -47,7 +47,7 @@ agrees_set k words i x a b c h = record {
   rows = λ t. segment_out words (table_at k t) (row_count k) i x (inl (omega arith));
 }
 
--- the lag record and the spare rows stay, and no view pins the spare table anew
+-- what is known of the spare table stays, where its rows and the lag record's place do and no view gets a valid pin on it
 pub lag_keep : (k : Shape) (words words' : List ℕ) (homes homes' : List (maybe.Option Place)) (now : Anchors) (views : List View) (id : ℕ) (v w : View) (lag : Lagging) → get_elem? views id ≡ some v
     → get_or words' 0 0 ≡ get_or words 0 0 → rows_of k words' ((get_or words 0 0 + 1) % 2) ≡ rows_of k words ((get_or words 0 0 + 1) % 2) → get_elem? homes' k.leaves ≡ get_elem? homes k.leaves
     → ((p : Pin) (x : Anchors × List ℕ) → w.pin ≡ Some p → p.checked ≡ Some x → (v.pin ≡ Some p) ⊎ (p.table ≢ (get_or words 0 0 + 1) % 2)) → (v.turn ≡ true → w.turn ≡ true) → LagIs k words homes now views lag → LagIs k words' homes' now (set views id w) lag
@@ -85,7 +85,7 @@ tables_keep k words words' homes homes' now views id v w at same home pin lane s
   lag_is = lag_keep k words words' homes homes' now views id v w t.lag at same.version (same.rows ((get_or words 0 0 + 1) % 2)) home (λ p x e c. inl (sym pin ∙ e)) turn t.lag_is;
 }
 
--- who has cleared the spare table
+-- a seat that keeps a spare table is the one that cleared it
 pub cleared_by : (j : ℕ) (lag : Lagging) (sp : Spare) → spare_at j lag ≡ Some sp → lag ≡ clearing j sp
 cleared_by j (behind S c) sp e = absurd (cc)
 cleared_by j (clearing seat q) sp e = dite (ℕ_discrete seat j)
@@ -98,7 +98,7 @@ spare_else j seat sp ne = ap (λ b. cond b (Some sp) None) (ne_eqb seat j ne)
 pub spare_here : (j : ℕ) (sp : Spare) → spare_at j (clearing j sp) ≡ Some sp
 spare_here j sp = ap (λ b. cond b (Some sp) None) (eq-eqb j j refl)
 
--- the spare rows, which stand for the new anchors, are published; the old ones lack the change
+-- a publish turns the tables over: the spare rows become the version's, and the version's rows are one change behind
 pub published_tables : (k : Shape) (words : List ℕ) (homes : List (maybe.Option Place)) (now : Anchors) (c : Lag) (views : List View) (id : ℕ) (v w : View) (new : ℕ) (sp : Spare) → get_elem? views id ≡ some v → get_or (set words 0 new) 0 0 ≡ get_or words 0 0 + 1
     → w.pin ≡ v.pin → w.lane ≡ v.lane → v.spare ≡ Some sp → sp.lag ≡ lag_home c → StandsFor k sp.rows (turned now c) → CanTurn now c → w.spare ≡ None → Tables k words homes now views → Tables k (set words 0 new) homes (turned now c) (set views id w)
 published_tables k words homes now c views id v w new sp at here pin lane has lag-is stands can gone t =
@@ -133,7 +133,7 @@ published_tables k words homes now c views id v w new sp at here pin lane has la
       stands = o.stands;
     }
 
--- the turn is given: what was kept of the spare table is settled
+-- where the turn is given, the cleared spare table is behind again by what the lag record names
 pub given_tables : (k : Shape) (words words' : List ℕ) (homes : List (maybe.Option Place)) (now : Anchors) (views : List View) (id : ℕ) (v w : View) → get_elem? views id ≡ some v → Agrees k words words' → w.pin ≡ v.pin → w.lane ≡ v.lane → w.spare ≡ None
     → ((j : ℕ) (u : View) → j ≢ id → get_elem? views j ≡ some u → u.turn ≡ true → ⊥) → ((sp : Spare) → v.spare ≡ Some sp → Settled k now sp) → Tables k words homes now views → Tables k words' homes now (set views id w)
 given_tables k words words' homes now views id v w at same pin lane gone alone settled t = by t.lag refl (t.spares id v at) t.lag_is
@@ -172,7 +172,7 @@ given_tables k words words' homes now views id v w at same pin lane gone alone s
           is_now = q.is_now;
         }
 
--- other views: each as one of the old in its place, or without pin and spare
+-- of tables a view has what the one in its place had before, or has nothing
 abbrev pub IsLike : List View → Lagging → ℕ → View → Type 0
 IsLike views lag j u = ((u.pin ≡ None) × (u.spare ≡ None) × (spare_at j lag ≡ None)) ⊎ ((v : View) × (get_elem? views j ≡ some v) × (u.pin ≡ v.pin) × (u.lane ≡ v.lane) × (u.spare ≡ v.spare) × (u.turn ≡ v.turn))
 

@@ -1,4 +1,4 @@
--- The steps on the turn and on the version.
+-- The rule is kept where the version is loaded, the turn taken or given, and a held leaf's date raised.
 use Rattle.std.proofs.Common.{◌≡◌, ℕ, ◌+◌, ◌*◌, ◌/◌, ◌<◌, ◌≤◌, eqb, cond, List, [], ◌∷◌, ◌++◌, length, get_or, set, sym, refl, ap, ◌∙◌, subst, inr, ⊎_elim, arith, ◌^◌, length-set, get_or-set_other, get_or-set_same, Option, Some, None, Bool, true, false, true≢false, eq-eqb, ne_eqb, eqb-true, IsSome}
 use mathlib.Core.Logic.{dite}
 use mathlib.Core.Option.{some, some-injective, some-ne-none}
@@ -39,7 +39,7 @@ current_noted : (front : List Note) (b : Bool) (version : ℕ) (now A : Anchors)
 current_noted front true version now A n e = let q = note_is (version, now) (n, A) e in (ap (λ z. z.0) (sym q), ap (λ z. z.1) (sym q), refl, (front, false, λ i. front ++ note_of (q i).0 (q i).1 false ∷ []))
 current_noted front false version now A n e = absurd (cc)
 
--- the version is loaded and noted
+-- a load of the version notes it, with the anchors as they are
 pub version_loads : (k : Shape) (n id : ℕ) (m : Sat) → Allows (Kept k) n id m VERSION (λ x. x) (Notes m)
 version_loads k n id m s o wide at _ =
     let v : View = m.0 in let version : ℕ = get_or s.words 0 0 in let w : View = noted version o.now v in (
@@ -67,7 +67,7 @@ dated_any version id lane (taken seat l g) h = more (eqb id seat) h
     more true h = omega arith
     more false h = h
 
--- where no view has the turn, none has cleared
+-- while the turn is free, nobody keeps a cleared spare table
 turnless : (k : Shape) (words : List ℕ) (homes : List (maybe.Option Place)) (now : Anchors) (views : List View) (lag : Lagging) → ((j : ℕ) (u : View) → get_elem? views j ≡ some u → u.turn ≡ false) → LagIs k words homes now views lag → (j : ℕ) → spare_at j lag ≡ None
 turnless k words homes now views (behind S c) none l j = refl
 turnless k words homes now views (clearing seat sp) none l j = let t = there views seat l.in_range in absurd (true≢false (sym (l.turn t.0 t.1) ∙ none seat t.0 t.1))
@@ -102,12 +102,12 @@ takes_turn k n id m lane mine-lane s o wide at _ = let v : View = m.0 in let fou
     ))
     (λ miss. (looked 1 found v, keeps, tt, unmoved k s o id 1 v at, record { hit = λ e. absurd (miss e); miss = λ _. refl; knew = knew k s o id 1 v at; finds = finds_turn k s o id v at }))
 
--- whose the turn is, where a view has it
+-- the turn of a seat that has it, with the lane that goes with it
 pub turn_of : (turn : Turn) (j : ℕ) → has_turn j turn ≡ true → (lane : ℕ) × (turn ≡ Some (j, lane))
 turn_of None j e = absurd (true≢false (sym e))
 turn_of (Some t) j e = (t.1, ap (λ (x : ℕ). Some (x, t.1)) (eqb-true t.0 j e))
 
--- and given
+-- the view that has the turn gives it
 pub gives_turn : (k : Shape) (n id : ℕ) (m : Sat) → m.0.turn ≡ true → NoneAhead m.0 → SpareSettled k m.0 → Allows (Kept k) n id m 1 (λ _. 0) (Unturns m)
 gives_turn k n id m mine-turn none-ahead settled s o wide at _ = let v : View = m.0 in let w : View = has_given v in let ws : List ℕ = set s.words 1 0 in let p = o.placed in let wide' = p.wide in
     let holder = turn_of o.turn id (sym (o.turns id v at).0 ∙ mine-turn) in
@@ -177,7 +177,7 @@ raises k n id m leaf place word lane version A h near is mine-lane small has-it 
       refl,
     )
 
--- a cell that keeps its word and its place
+-- another cell with the same word and the same place leaves all words and places right
 pub placed_same : (k : Shape) (words : List ℕ) (homes : List (maybe.Option Place)) (cells : List Cell) (i : ℕ) (c c' : Cell) → get_elem? cells i ≡ some c → word_of c' ≡ word_of c → home_of c' ≡ home_of c → CellOk k c' → Placed k words homes cells → Placed k words homes (set cells i c')
 placed_same k words homes cells i c c' at word home ok p = record {
   wide = p.wide;

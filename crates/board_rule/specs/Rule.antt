@@ -24,7 +24,7 @@ use Rattle.board_rule.specs.Pins.{Pin, LagSpot, lag_home, lag_away, lag_moving, 
 use Rattle.board_rule.specs.Cells.{Spot, at_home, away, moving, Cell, free, taken, word_of, map_of, mine}
 use Rattle.board_rule.specs.Views.{VERSION, TURN, GIVEN, PINS, LEAVES}
 
--- how many words a table has
+-- the length of one table, in words
 unfoldable pub row_count : Shape → ℕ
 row_count k = layout.word_count k
 
@@ -60,7 +60,7 @@ abbrev pub CellOk : Shape → Cell → Type 0
 CellOk k (free word m) = (word % 256 ≡ 0) × (m.salt ≡ k.salt) × (word < 2 ^ 64)
 CellOk k (taken seat lane h) = (h.word % 256 ≡ lane + 1) × (lane < 64) × (h.word < 2 ^ 64)
 
--- the leaves' words and places are those of the cells
+-- for each leaf, its word and its place are as its cell says
 pub record Placed (k : Shape) (words : List ℕ) (homes : List (maybe.Option Place)) (cells : List Cell) : Type 0 where
   pub wide : length words ≡ word_count k
   pub slots : k.leaves < length homes
@@ -162,7 +162,7 @@ abbrev pub times : ℕ → List ℕ → ℕ
 times n [] = 0
 times n (x ∷ xs) = bit (x == n) + times n xs
 
--- how often a view has this number: as its lane's, as one drawn for a new lane, and as that of a lane ended into it
+-- how many times a number is with a view, be it as its lane's, as a drawn one or among those of lanes that ended into it
 abbrev pub has_number : ℕ → View → ℕ
 has_number n v = is_some n v.lane + is_some n v.drawn + times n v.ended
 
@@ -203,7 +203,7 @@ pub record Behind (k : Shape) (words : List ℕ) (homes : List (maybe.Option Pla
   pub can : CanTurn S c
   pub is_now : turned S c ≡ now
 
--- The seat that has the turn has cleared the spare table and keeps its rows; no view has a valid pin there.
+-- A seat under the turn works on the spare table: its rows are those that it keeps, and no valid pin is on that table.
 pub record Clearing (k : Shape) (words : List ℕ) (homes : List (maybe.Option Place)) (views : List View) (seat : ℕ) (sp : Spare) : Type 0 where
   pub in_range : seat < length views
   pub turn : (v : View) → get_elem? views seat ≡ some v → v.turn ≡ true

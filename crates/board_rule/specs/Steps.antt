@@ -39,7 +39,7 @@ pub record Grew (v w : View) : Type 0 where
   pub given : v.given ≤ w.given
   pub sole : w.sole ≡ true → v.sole ≡ true
 
--- a sole view knows what a step finds
+-- to a sole view no step brings news: it finds the word as the view has it
 abbrev pub Knew : ℕ → View → ℕ → Type 0
 Knew word v found = v.sole ≡ true → found ≡ slice_index v.words word
 
@@ -133,7 +133,7 @@ Ends word leaf new lane (Some d) m n = (log : List Entry) × (n ≡ (unlocked wo
 abbrev pub Unlocks : ℕ → ℕ → ℕ → ℕ → Deed → Sat → ℕ → Sat → Type 0
 Unlocks word leaf new lane deed m found n = Ends word leaf new lane deed m n
 
--- the leaf's place is out with the seat, and back
+-- the seat takes out what a held leaf's place has, and puts something in
 abbrev pub Grabs : ℕ → Holding → Place → Sat → ℕ → Sat → Type 0
 Grabs leaf h place m found n = n ≡ (holding leaf (Some (spotted moving h)) m.0, (leaf, place) ∷ m.1)
 
@@ -186,7 +186,7 @@ abbrev pub note_or : Option (ℕ × Anchors) → ℕ × Anchors
 note_or None = (0, [])
 note_or (Some x) = x
 
--- the version and its anchors, where the view has the turn and loaded the version under it
+-- the version that the view loaded or published under its turn, and the anchors; before that 0 and none
 abbrev pub current : View → ℕ
 current v = (note_or v.current).0
 
@@ -209,7 +209,7 @@ pub record Settled (k : Shape) (A : Anchors) (sp : Spare) : Type 0 where
 abbrev pub SpareSettled : Shape → View → Type 0
 SpareSettled k v = (sp : Spare) → v.spare ≡ Some sp → (A : Anchors) × (n : ℕ) × (v.current ≡ Some (n, A)) × Settled k A sp
 
--- the two leaves of a change, and the maps that it leaves them
+-- which leaves a change concerns, the left and the right one, and what maps they have after it
 abbrev pub left_of : Lag → ℕ
 left_of Same = 0
 left_of (Split l a r) = l
@@ -282,7 +282,7 @@ pub record Clears (k : Shape) (word : ℕ) (m : Sat) (found : ℕ) (n : Sat) : T
   pub published : List ℕ
   pub fits : StandsFor k published (anchors_now m.0)
 
--- the lag record's place is out with the seat, and back
+-- the seat takes out what the lag record's place has, and puts something in
 abbrev pub GrabsLag : ℕ → Spare → Place → Sat → ℕ → Sat → Type 0
 GrabsLag slot sp place m found n = n ≡ (lagged lag_moving sp m.0, (slot, place) ∷ m.1)
 
@@ -312,7 +312,7 @@ abbrev pub the_spare : Option Spare → Spare
 the_spare None = record { rows = []; lag = lag_away }
 the_spare (Some sp) = sp
 
--- what the view keeps of the spare table that it cleared
+-- the cleared spare table that the view keeps
 abbrev pub kept_spare : View → Spare
 kept_spare v = the_spare v.spare
 
@@ -339,14 +339,14 @@ abbrev pub the_check : Option (Anchors × List ℕ) → Anchors × List ℕ
 the_check None = ([], [])
 the_check (Some x) = x
 
--- the anchors and the rows that a view keeps with a valid pin
+-- what the pinned table had when the pin was found valid: the anchors that it stood for, and its rows
 abbrev pub pinned_anchors : View → Anchors
 pinned_anchors v = (the_check (pin_of v).checked).0
 
 abbrev pub pinned_rows : View → List ℕ
 pinned_rows v = (the_check (pin_of v).checked).1
 
--- the view has a valid pin
+-- a pin is there, and was found valid
 abbrev pub HasChecked : View → Type 0
 HasChecked v = (v.pin ≡ Some (pin_of v)) × ((pin_of v).checked ≡ Some (the_check (pin_of v).checked))
 

@@ -78,7 +78,7 @@ abbrev pub the_holding : Option Holding → Holding
 the_holding None = record { word = 0; map = []; spot = away }
 the_holding (Some h) = h
 
--- what the view has of a leaf that it holds
+-- a held leaf as this view has it
 abbrev pub has : View → ℕ → Holding
 has v leaf = the_holding (held_at v leaf)
 
@@ -93,11 +93,11 @@ content_of moving = no_content
 abbrev pub content : View → ℕ → Content
 content v leaf = content_of (has v leaf).spot
 
--- the view holds the leaf, whose content is in its place
+-- the leaf is one that the view holds, with its content in its place
 abbrev pub HasInside : View → ℕ → Type 0
 HasInside v leaf = (held_at v leaf ≡ Some (has v leaf)) × ((has v leaf).spot ≡ at_home (content v leaf))
 
--- the view holds the leaf, whose content is out of its place
+-- the leaf is one that the view holds, with its content out
 abbrev pub HasAway : View → ℕ → Type 0
 HasAway v leaf = (held_at v leaf ≡ Some (has v leaf)) × ((has v leaf).spot ≡ away)
 
@@ -152,7 +152,7 @@ spent_of u = record { lane = None; sole = false; words = []; drawn = None; room 
 abbrev pub HoldsNone : View → Type 0
 HoldsNone u = u.held ≡ nothing u.held
 
--- the version was loaded, and is noted with its anchors
+-- after a load of the version, which is noted together with the anchors
 abbrev pub noted : ℕ → Anchors → View → View
 noted n A v = record v { looks = v.looks ++ (VERSION, n) ∷ []; notes = v.notes ++ note_of n A false ∷ []; current = cond v.turn (Some (n, A)) None }
 
@@ -209,7 +209,7 @@ cleared word found sp v = record v { looks = v.looks ++ (word, found) ∷ []; sp
 abbrev pub written : ℕ → ℕ → ℕ → Spare → View → View
 written word i x sp v = record v { spare = Some (record sp { rows = slice_set sp.rows i x }); words = slice_set v.words word x }
 
--- the lag record is elsewhere
+-- the lag record is now at this spot
 abbrev pub lagged : LagSpot → Spare → View → View
 lagged spot sp v = record v { spare = Some (record sp { lag = spot }) }
 

@@ -51,7 +51,7 @@ pub struct Pass {
     ghost roomy: { room < 65 },
 }
 
-/// What a call did, which its unlock adds to the history: a call with its reply, or none.
+/// What an unlock enters into the history for its call: the call with its reply, or nothing.
 pub trait Event {
     ghost use Rattle.board_rule.specs.Views.{Deed};
 

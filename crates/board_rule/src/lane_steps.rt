@@ -1,4 +1,4 @@
-//! The steps that give lanes their numbers, and that cut and join passes.
+//! How a new lane gets its number and its pass, and how a pass ends in another.
 
 ghost use Rattle.std.specs.Prelude.{◌≡◌, ℕ, ◌+◌, ◌-◌, ◌<◌, ◌≤◌, [], ◌∷◌, true, false, Some, None, IsSome};
 ghost use Rattle.std.specs.Option.{ForSome};
@@ -9,9 +9,8 @@ ghost use Rattle.board_rule.specs.Passes.{view, IsOf};
 
 use crate::board::{Board, Pass};
 use crate::rule::{Copies, Forks};
+use crate::words::LANES_GIVEN;
 use std::marker::Brand;
-
-const LANES_GIVEN: usize = 2;
 
 /// Draws the next lane number, which no lane had before, and answers it. The pass keeps it until a
 /// split gives it away.

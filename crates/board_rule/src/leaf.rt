@@ -1,10 +1,10 @@
-//! What lies in the places of the board.
+//! The values that a board's places take.
 
 use key_bytes::Bytes;
 use leaf_store::Leaf;
 use meta_trie::Lag;
 
-/// What a place has: a leaf, the lag record, or nothing while it is out.
+/// A leaf's content or the lag record, or nothing while a pass has it out.
 #[derive(Drop)]
 pub enum Place {
     Home(Leaf<Bytes>),

@@ -1,4 +1,4 @@
-//! Looks, and the steps on a leaf.
+//! Loads of any word, and how a leaf is locked, moved and unlocked.
 
 ghost use Rattle.std.specs.Prelude.{◌≡◌, ℕ, ◌+◌, ◌%◌, ◌<◌, ◌≤◌, [], ◌∷◌, ◌/◌, true, false, Some, None, IsSome, slice_index};
 ghost use Rattle.board_rule.specs.Rule.{word_count, leaf_word};
@@ -27,8 +27,8 @@ pub fn look(pass: &mut Pass, board: &Board, word: u32) -> u64
     board.load_as::<Brand>(&mut pass.seat, word as usize, 0)
 }
 
-/// Exchanges a leaf's word, which has no holder, for one with this lane as holder. It answers the
-/// word that it found; where that is another than the one expected, it was only a look.
+/// Locks a leaf: where its word is `before`, which names no holder, it then names this lane. The
+/// answer is the word that was found; where that isn't `before`, this was only a look.
 pub fn lock(pass: &mut Pass, board: &Board, leaf: u32, before: u64) -> u64
     requires of { IsOf board.now pass.old }
     requires lane { IsSome pass.old.lane }
@@ -72,7 +72,7 @@ pub fn unlock<E: Event>(pass: &mut Pass, board: &Board, leaf: u32, after: u64, e
     board.swap_as::<E, Brand>(&mut pass.seat, word, after, leaf, lane, event);
 }
 
-/// Moves a held leaf's content out of its place.
+/// Takes the content of a held leaf out of its place, which is empty until one is moved in.
 pub fn move_leaf_out(pass: &mut Pass, board: &Board, leaf: u32) -> Leaf<Bytes>
     requires of { IsOf board.now pass.old }
     requires leaf { leaf < board.now.shape.leaves }
@@ -96,7 +96,7 @@ pub fn move_leaf_out(pass: &mut Pass, board: &Board, leaf: u32) -> Leaf<Bytes>
     }
 }
 
-/// Moves a content into a held leaf's place.
+/// Fills the place of a held leaf, whose content is out, with this content.
 pub fn move_leaf_in(pass: &mut Pass, board: &Board, leaf: u32, content: Leaf<Bytes>)
     requires of { IsOf board.now pass.old }
     requires leaf { leaf < board.now.shape.leaves }

@@ -16,6 +16,7 @@ mod spare_steps;
 mod tests;
 mod turn_steps;
 mod view;
+mod words;
 
 pub use board::{Board, Event, Pass};
 pub use lane_steps::{enrol, join, split};

@@ -1,4 +1,4 @@
-//! Makes a board.
+//! How a new board gets its words and places, and its first pass.
 
 ghost use Rattle.std.specs.Prelude.{◌≡◌, ℕ, ◌+◌, ◌-◌, ◌<◌, ◌++◌, ◌∷◌, [], List, true, Some, None, IfOk, OnOk, length, map, replicate};
 ghost use Rattle.row_words.specs.Shape.{IsShape};
@@ -16,7 +16,7 @@ use meta_trie::{Lag, start_zeroed};
 use row_words::{RowsMut, Shape, VecRows};
 use std::alloc::{AllocError, Global};
 
-// Adds a word many times.
+// Pushes so many copies of one word.
 fn push_many(words: &mut Vec<u64>, word: u64, count: u32) -> Result<(), AllocError>
     ensures { OnOk result (words.new.items ≡ words.old.items ++ replicate count word) }
 {
@@ -26,7 +26,7 @@ fn push_many(words: &mut Vec<u64>, word: u64, count: u32) -> Result<(), AllocErr
     Ok(())
 }
 
-// Adds the words of a table.
+// Pushes a copy of the rows' words, which stay as they are.
 fn push_rows(words: &mut Vec<u64>, rows: &mut VecRows) -> Result<(), AllocError>
     ensures words { OnOk result (words.new.items ≡ words.old.items ++ words_of rows.old) }
     ensures rows { words_of rows.new ≡ words_of rows.old }
@@ -67,7 +67,7 @@ fn opening(alloc: Global, shape: &Shape) -> Result<Opening, AllocError>
     })
 }
 
-// The places: a leaf of no keys for each number, and the lag record.
+// One empty leaf for each leaf number, and behind them a lag record of no change.
 fn first_places(alloc: Global, shape: &Shape) -> Result<Vec<Place>, AllocError>
     ensures { IfOk result (λ places. AreEmpty shape.now places.items) }
 {
@@ -80,7 +80,7 @@ fn first_places(alloc: Global, shape: &Shape) -> Result<Vec<Place>, AllocError>
 }
 
 impl Board {
-    /// A board of version 0 with one live leaf, which has no key, and its first pass, which is sole
+    /// A new board of version 0, whose one live leaf has no key; and its first pass, which is sole
     /// and has lane 0. It writes each word of the board twice.
     pub fn make(alloc: Global, shape: &Shape) -> Result<(Board, Pass), AllocError>
         requires { IsShape shape.now }

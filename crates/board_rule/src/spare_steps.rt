@@ -1,4 +1,4 @@
-//! The steps on the spare table and on the lag record.
+//! How a pass under the turn clears the spare table and writes it, and moves the lag record.
 
 ghost use Rattle.std.specs.Prelude.{◌≡◌, ℕ, ◌+◌, ◌-◌, ◌%◌, ◌<◌, ◌≤◌, Some, None, IsSome};
 ghost use Rattle.board_rule.specs.Rule.{row_count, table_at};
@@ -9,12 +9,9 @@ ghost use Rattle.board_rule.specs.Passes.{view, IsOf};
 
 use crate::board::{Board, Pass};
 use crate::leaf::Place;
+use crate::words::{PINS_WORD, VERSION_WORD};
 use meta_trie::Lag;
 use std::marker::Brand;
-
-const VERSION_WORD: usize = 0;
-
-const PINS_WORD: usize = 3;
 
 /// Loads the spare table's pins, and answers how many there are. Where there is none, the table is
 /// cleared: no pass reads it before the next publish, and the lag record may be moved.
@@ -45,7 +42,7 @@ pub fn write(pass: &mut Pass, board: &Board, word: u32, value: u64)
     board.store_as::<Brand>(&mut pass.seat, word as usize, value, 0)
 }
 
-/// Moves the lag record out of its place.
+/// Takes the lag record out of its place, once the spare table is cleared.
 pub fn move_lag_out(pass: &mut Pass, board: &Board) -> Lag
     requires of { IsOf board.now pass.old }
     requires spare { HasSpare (view pass.old) }
@@ -69,7 +66,7 @@ pub fn move_lag_out(pass: &mut Pass, board: &Board) -> Lag
     }
 }
 
-/// Moves a lag record into its place.
+/// Fills the lag record's place, which is empty, with this record.
 pub fn move_lag_in(pass: &mut Pass, board: &Board, lag: Lag)
     requires of { IsOf board.now pass.old }
     requires spare { HasSpare (view pass.old) }

@@ -1,4 +1,4 @@
-//! The steps on the turn and on the version.
+//! How the version is loaded and published, the turn taken and given, and a held leaf raised.
 
 ghost use Rattle.std.specs.Prelude.{◌≡◌, ◌≢◌, ℕ, ◌+◌, ◌*◌, ◌/◌, ◌%◌, ◌^◌, ◌<◌, ◌≤◌, true, Some, None, IsSome, slice_index};
 ghost use Rattle.board_rule.specs.Rule.{leaf_word};
@@ -7,13 +7,10 @@ ghost use Rattle.board_rule.specs.Steps.{Grew, Notes, Turns, NoneAhead, SpareSet
 ghost use Rattle.board_rule.specs.Passes.{lane_of, view, IsOf};
 
 use crate::board::{Board, Pass};
+use crate::words::{TURN_WORD, VERSION_WORD};
 use std::marker::Brand;
 
-const VERSION_WORD: usize = 0;
-
-const TURN_WORD: usize = 1;
-
-/// Loads the version, and notes it with its anchors.
+/// Loads the version, and answers it. The pass notes it, and what its anchors are.
 pub fn version_load(pass: &mut Pass, board: &Board) -> u64
     requires of { IsOf board.now pass.old }
     requires lane { IsSome pass.old.lane }
@@ -53,7 +50,7 @@ pub fn give_turn(pass: &mut Pass, board: &Board)
     board.store_as::<Brand>(&mut pass.seat, TURN_WORD, 0, 0)
 }
 
-/// Stores a held leaf's word with an expected version one above the version.
+/// Dates a held leaf one above the version: stores its word so, with this lane as its holder.
 pub fn raise(pass: &mut Pass, board: &Board, leaf: u32, after: u64)
     requires of { IsOf board.now pass.old }
     requires lane { IsSome pass.old.lane }
@@ -71,8 +68,8 @@ pub fn raise(pass: &mut Pass, board: &Board, leaf: u32, after: u64)
     board.store_as::<Brand>(&mut pass.seat, word, after, leaf)
 }
 
-/// Publishes the next version, with the change that the lag record names: both leaves of it get the
-/// maps that it leaves them.
+/// Makes the change that the lag record names the next version. The two leaves of it get the maps
+/// that the change leaves them.
 pub fn publish(pass: &mut Pass, board: &Board, version: u64)
     requires of { IsOf board.now pass.old }
     requires version { version ≡ current (view pass.old) + 1 }

@@ -10,7 +10,7 @@ ghost use Rattle.board_rule.specs.Pins.{Pin, Spare};
 
 use std::marker::Model;
 
-/// What a pass knows, holds and has seen. No value of it is made.
+/// All that proofs say of a pass: what it knows, holds and has seen. No value of it is ever made.
 pub struct View {
     // The number of its lane, whether no other pass is there, and then all words as they are.
     pub ghost lane: { Option ℕ },
