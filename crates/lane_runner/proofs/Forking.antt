@@ -1,4 +1,4 @@
--- Lanes that are forked one after another.
+-- What is known of the lanes while they are forked one by one, and where a fork is refused.
 use Rattle.std.proofs.Common.{◌≡◌, ℕ, ◌+◌, ◌<◌, ◌≤◌, List, [], ◌∷◌, ◌++◌, Option, Vec, Err, arith}
 use Rattle.std.specs.declared.alloc.Global.{Global}
 use Rattle.map_model.specs.History.{Entry}
@@ -8,7 +8,7 @@ use Rattle.map_model.specs.declared.refusal.ForkFault.TheVariants as faults
 use Rattle.lane_runner.specs.Runs.{TellsRoom}
 use Rattle.lane_runner.specs.Tasks.{Task, IsReady, AreReady, AreOf, HaveSeen}
 
--- one lane more
+-- a fork with a higher number joins the ready lanes, and the next script is its own
 pub ready_push : (origin most : ℕ) (limit : Option ℕ) (seen : List Entry) (from upto next : ℕ) (scripts : List (Vec ℕ Global)) (slots : List Task) (script : Vec ℕ Global) (x : Task)
     → AreReady origin most limit seen from upto scripts slots → IsReady origin most limit seen script.items x → upto ≤ x.lane → x.lane < next → AreReady origin most limit seen from next (scripts ++ script ∷ []) (slots ++ x ∷ [])
 ready_push origin most limit seen from upto next [] [] script x all is low high = (omega (arith, low, all), is, omega (arith, high))
@@ -30,7 +30,7 @@ ready_seen origin most limit seen from upto [] (s ∷ slots) all = absurd all
 ready_seen origin most limit seen from upto (t ∷ scripts) [] all = absurd all
 ready_seen origin most limit seen from upto (t ∷ scripts) (s ∷ slots) all = (all.1.same_seen, ready_seen origin most limit seen (s.lane + 1) upto scripts slots all.2)
 
--- a fork was refused
+-- what a refused fork says of lanes is so of all the forks that were asked for
 pub refused_forks : (T S : Type 0) (before now room forks most : ℕ) (fault : ForkFault)
     → ForksByRoom {T = T} before now (Err fault) → (before ≡ 0 → TellsLanes {T = T} most (Err fault)) → (before ≡ 0 → room < forks) → TellsRoom {T = S} room forks most (Err fault)
 refused_forks T S before now room forks most (faults.Lanes given cap) by told less = (less by.0, told by.0)

@@ -1,4 +1,4 @@
--- All lanes together.
+-- The first lane's run and the forks' runs, put together to the run of all scripts.
 use Rattle.std.proofs.Common.{◌≡◌, ℕ, suc, ◌+◌, ◌<◌, List, [], ◌∷◌, ◌++◌, length, reverse, Bool, false, IsTrue, sym, ap, ◌∙◌, refl, subst, arith, Option, Vec}
 use Rattle.std.specs.Prelude.{slice_index_or}
 use Rattle.std.specs.List.{remove}
@@ -17,7 +17,7 @@ pub taken_first : (xs tail : List (Vec ℕ Global)) (head : Vec ℕ Global) → 
 taken_first [] tail head some is rest = absurd (omega (arith, some))
 taken_first (x ∷ xs) tail head some is rest = let h : head ≡ x = is in let t : tail ≡ xs = rest in cc (h, t)
 
--- Lanes that were ready, and ran.
+-- What follows once the ready lanes have run.
 module _ (lane origin most : ℕ) (limit : Option ℕ) (seen : List Entry) (upto : ℕ) (tail : List (Vec ℕ Global)) (slots slots' : List Task) (ready : AreReady origin most limit seen (lane + 1) upto tail slots) (ran : AllRan slots slots') where
   pub all_done : AreDone most limit seen (lane + 1) upto tail slots'
   all_done = done origin most limit seen (lane + 1) upto tail slots slots' ready ran
@@ -37,7 +37,7 @@ module _ (lane origin most : ℕ) (limit : Option ℕ) (seen : List Entry) (upto
       (subst (λ w. LanesServe limit lane sole most scripts w count next seen later) (sym (reverse-append ends (end ∷ [])))
       (subst (λ w. LanesServe limit lane sole most w (end ∷ reverse ends) count next seen later) (sym is_scripts) all))
     where
-      -- where it is the only lane, no lane was forked
+      -- a first lane that is still alone has forked none, so that there are no further scripts
       some : IsTrue sole → (t : List (Vec ℕ Global)) → t ≡ tail → length tail ≡ 0
       some is [] e = ap length (sym e)
       some is (s ∷ t) e = absurd (false≢true (sym (among (omega (arith, ap length e))) ∙ is))

@@ -1,4 +1,4 @@
--- From a session over a script to what a lane served of it.
+-- What a session's contract says over a whole script, told as what a lane served.
 use Rattle.std.proofs.Common.{◌≡◌, ℕ, ◌+◌, List, [], ◌∷◌, ◌++◌, length, map, filter, Bool, true, false, refl, sym, ap, ◌∙◌, subst, Option, Some, arith, length-append, append_assoc, if◌then◌else◌, ◌||◌}
 use Rattle.std.specs.List.{list_any, sum_by}
 use Rattle.std.proofs.lemmas.List.{append-nil}
@@ -21,7 +21,7 @@ use Rattle.session.specs.declared.session.SessionEnd.{SessionEnd}
 use Rattle.session.specs.declared.session.SessionEnd.TheVariants as ends
 use Rattle.lane_runner.specs.Runs.{LinesBy, OutputBy, ServesScript, NothingFits}
 
--- where a line quits, more lines behind it aren't served
+-- lines that come behind a QUIT change nothing of what is served
 until-append : (xs ys : List (List ℕ)) → list_any quits (until_quit xs) ≡ true → until_quit (xs ++ ys) ≡ until_quit xs
 until-append [] ys some = absurd cc
 until-append (x ∷ xs) ys some =
@@ -30,7 +30,7 @@ until-append (x ∷ xs) ys some =
       | false ↦ λ later. ap (λ w. x ∷ w) (until-append xs ys later)
     ]) some
 
--- nor lines of more bytes
+-- nor do bytes that come behind it
 served_more : (bytes more : List ℕ) → list_any quits (served bytes false) ≡ true → served (bytes ++ more) true ≡ served bytes false
 served_more bytes more quit =
     let first = ended_lines [] bytes in
@@ -46,7 +46,7 @@ served_more bytes more quit =
 abbrev pub at_start : List ℕ → Told
 at_start script = record { given = []; left = script; ended = false }
 
--- The lines and the output by the end of a session over a script, which neither failed nor was longer than it is.
+-- By each end of a session that no fault ended and whose budget covers the script: which lines it served, and what it wrote.
 module _ (script bytes : List ℕ) (ended : Bool) (t : Told) (out text : List ℕ) (all : List (List ℕ)) (took : Took (Some (at_start script)) (Some t) bytes) (answered : Ended (Some (at_start script)) (Some t) ended) where
   whole : script ≡ bytes ++ t.left
   whole = took.1
@@ -66,7 +66,7 @@ module _ (script bytes : List ℕ) (ended : Bool) (t : Told) (out text : List �
   ends_by ends.NoMemory reads writes taken of_all said = ((bytes, ended, (t.left, sym whole), of_all), subst (λ o. IsPrefix o text) (let same : said.0 ≡ out = sym (cc said.2) in same) said.1)
   ends_by (ends.Spent count) reads writes taken of_all said = absurd (omega (arith, ap length whole, length-append bytes t.left, taken.0))
 
--- A session's replies, and the same where less is known of room.
+-- The transcript of a session's replies, and that transcript under a narrower notion of what fits.
 module _ (limit : Option ℕ) (lane : ℕ) (sole : Bool) (less fits : List Entry → Type 0) (fewer : (h : List Entry) → fits h → less h) (i j : ℕ) (u v : Option Refusal) (old new : List Entry) where
   transcribed : (end : SessionEnd) (all : List (List ℕ)) (w x : Option (List ℕ)) → (r : Replies end all w x limit lane sole less i j u v old new)
       → Transcribes limit lane sole less i j u v (λ xs. xs ≡ map request r.lines) (λ ps. text_of ps ≡ r.output) old new
@@ -91,7 +91,7 @@ module _ (limit : Option ℕ) (lane : ℕ) (sole : Bool) (less fits : List Entry
       let found = both old refl in
       subst (λ n. Transcribes limit lane sole fits i j u v A S old n) found.1 found.2
 
--- What a lane served of its script by a session.
+-- A session over a script from its start, with nothing said before, serves the script for its lane.
 module _ (script : List ℕ) (t : Told) (out : List ℕ) (end : SessionEnd) (limit : Option ℕ) (lane : ℕ) (sole : Bool) (less : List Entry → Type 0) (i j : ℕ) (u v : Option Refusal) (before now : List Entry → Type 0) (old new : List Entry) where
   pub serves_script : Session end (length script + 1) (Some (at_start script)) (Some t) (Some []) (Some out) limit lane sole less i j u v before now
       → before old → ((h : List Entry) → now h → h ≡ new) → IsLegal new → (end ≡ ends.ReadFault → ⊥) → (end ≡ ends.WriteFault → ⊥)
@@ -118,7 +118,7 @@ module _ (script : List ℕ) (t : Told) (out : List ℕ) (end : SessionEnd) (lim
         w.grows.begins,
       )
 
--- The same of a source and a sink that were just made.
+-- So does one whose source, sink and budget are equal to fresh ones.
 module _ (budget : ℕ) (t₀ t : Told) (w₀ out : List ℕ) (end : SessionEnd) (limit : Option ℕ) (lane : ℕ) (sole : Bool) (less : List Entry → Type 0) (i j : ℕ) (u v : Option Refusal) (before now : List Entry → Type 0) (old new : List Entry) (script : List ℕ) where
   pub first_serves : Session end budget (Some t₀) (Some t) (Some w₀) (Some out) limit lane sole less i j u v before now
       → budget ≡ length t₀.left + 1 → t₀ ≡ at_start script → w₀ ≡ []
@@ -131,7 +131,7 @@ module _ (budget : ℕ) (t₀ t : Told) (w₀ out : List ℕ) (end : SessionEnd)
       let s3 = subst (λ x. Session end (length script + 1) (Some (at_start script)) (Some t) (Some x) (Some out) limit lane sole less i j u v before now) is_silent s2 in
       serves_script script t out end limit lane sole less i j u v before now old new s3 stood only legal reads writes
 
--- The same of a lane that was ready, which isn't alone.
+-- And for a forked lane that was ready: it isn't alone, and its count of refusals begins at 0.
 module _ (budget : ℕ) (t₀ t : Told) (w₀ out : List ℕ) (end : SessionEnd) (limit₀ limit : Option ℕ) (lane : ℕ) (sole : Bool) (less : List Entry → Type 0) (i j : ℕ) (u v : Option Refusal) (before now : List Entry → Type 0) (seen₀ seen new : List Entry) (script : List ℕ) where
   pub ready_serves : Session end budget (Some t₀) (Some t) (Some w₀) (Some out) limit₀ lane sole less i j u v before now
       → budget ≡ length t₀.left + 1 → t₀ ≡ at_start script → w₀ ≡ [] → limit₀ ≡ limit → sole ≡ false → i ≡ 0 → seen₀ ≡ seen

@@ -1,4 +1,4 @@
--- What lanes served of their scripts.
+-- When a script counts as served by its lane, and many scripts by theirs.
 use Rattle.std.specs.Prelude.{◌≡◌, ◌≤◌, ◌<◌, ◌+◌, ℕ, List, [], ◌∷◌, ◌++◌, Bool, true, false, IsTrue, Option, Vec, Result, Ok, Err}
 use Rattle.std.specs.declared.alloc.Global.{Global}
 use Rattle.std.specs.List.{sum_by}
@@ -13,7 +13,7 @@ use Rattle.session.specs.declared.session.SessionEnd.{SessionEnd}
 use Rattle.session.specs.declared.session.SessionEnd.TheVariants.{Quit, EndOfInput, ReadFault, WriteFault, NoMemory, Spent}
 use Rattle.lane_runner.specs.declared.slot.LaneEnd.{LaneEnd}
 
--- The lines that were served of a script, by the end of its session: all of them; where memory was wanting, some first lines of some first bytes. It doesn't end otherwise.
+-- How a session may end over a script, and which lines it served then: each line, or for want of memory some first lines of some first bytes.
 abbrev pub LinesBy : SessionEnd → List ℕ → List (List ℕ) → Type 0
 LinesBy Quit script lines = lines ≡ served script true
 LinesBy EndOfInput script lines = lines ≡ served script true
@@ -22,7 +22,7 @@ LinesBy WriteFault script lines = ⊥
 LinesBy NoMemory script lines = (bytes : List ℕ) × (ended : Bool) × IsPrefix bytes script × IsPrefix lines (served bytes ended)
 LinesBy (Spent taken) script lines = ⊥
 
--- The output by the end of the session: the whole text; where memory was wanting, some first bytes of it.
+-- What a session wrote by its end: the whole text, or for want of memory some first bytes of it.
 abbrev pub OutputBy : SessionEnd → List ℕ → List ℕ → Type 0
 OutputBy Quit text output = output ≡ text
 OutputBy EndOfInput text output = output ≡ text

@@ -1,4 +1,4 @@
--- What a script tells.
+-- A script as a source of bytes.
 use Rattle.std.specs.Prelude.{take, drop}
 use Rattle.outside.specs.Reading.{Told}
 use Rattle.lane_runner.specs.declared.script.Script.{Script}

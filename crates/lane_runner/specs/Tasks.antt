@@ -1,4 +1,4 @@
--- Lanes that are to serve a script each, and that have.
+-- A lane with its script, before it has served it and after.
 use Rattle.std.specs.Prelude.{◌≡◌, ◌≤◌, ◌<◌, ◌+◌, ℕ, List, [], ◌∷◌, Bool, false, Option, Vec}
 use Rattle.std.specs.declared.alloc.Global.{Global}
 use Rattle.counts.specs.Counts.{RoseBy}
@@ -62,7 +62,7 @@ AreDone most limit before from upto (script ∷ scripts) (t ∷ tasks) =
     × ((owes : ℕ) × ServesScript limit t.lane false script.items t.ending t.output owes before t.seen × RoseBy owes 0 t.refusals)
     × AreDone most limit before (t.lane + 1) upto scripts tasks
 
--- all lanes are of one index
+-- each lane belongs to the index of this origin
 abbrev pub AreOf : ℕ → List Task → Type 0
 AreOf origin [] = Unit {0}
 AreOf origin (t ∷ tasks) = (t.origin ≡ origin) × AreOf origin tasks

@@ -13,7 +13,7 @@ use session::Patience;
 use std::alloc::Global;
 use std::thread::Threads;
 
-/// Forks a lane for each script, in their order. Where a fork is refused, those that were made are ended.
+/// Forks as many lanes as there are scripts, in their order. A refusal ends those made so far.
 pub(crate) fn fork_slots<'a, T: Lanes, G: Gate, P: Patience + Copy>(
     alloc: Global,
     first: &mut T,
@@ -50,7 +50,7 @@ pub(crate) fn fork_slots<'a, T: Lanes, G: Gate, P: Patience + Copy>(
     Ok(slots)
 }
 
-/// Ends lanes that have seen what the first one has.
+/// Ends lanes that served nothing, so that the first one learns nothing by them.
 fn end_unserved<'a, T: Lanes, G: Gate, P: Patience + Copy>(
     first: &mut T,
     mut slots: Vec<Slot<'a, T, G, P>>,
@@ -67,7 +67,7 @@ fn end_unserved<'a, T: Lanes, G: Gate, P: Patience + Copy>(
     }
 }
 
-/// Ends lanes that have served their scripts, the last one first, and puts their ends behind those that are there.
+/// Ends lanes whose scripts are served, from the last one to the first, and pushes how each script ended.
 pub(crate) fn end_served<'a, R: Threads + Sync, T: Lanes, G: Gate, P: Patience + Copy + Send>(
     _rt: &R,
     first: &mut T,

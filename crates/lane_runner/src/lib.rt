@@ -1,4 +1,4 @@
-//! Scripts that are served at once, each by a lane of its own.
+//! Serves many scripts at the same time: each has a lane to itself, and all lanes are of one index.
 #![tactic(auto)]
 
 mod forks;

@@ -1,4 +1,4 @@
-//! The run of all scripts.
+//! Runs each lane's script in a thread, and gathers the ends.
 ghost use Rattle.std.specs.Prelude.{◌≡◌, ◌<◌, ◌-◌, IfOk, OnErr, vec_len, reverse};
 ghost use mathlib.Core.List.{IsPrefix};
 ghost use Rattle.lane_runner.specs.Runs.{FirstServes, LanesServe, TellsRoom};
@@ -19,7 +19,7 @@ use std::sync::Wait;
 use std::thread;
 use std::thread::{Threads, join};
 
-/// Serves script 0 by the first lane.
+/// Runs the first lane through its script, and gives the lane back with the script's end.
 fn run_first<T: Lanes, G: Gate, P: Patience + Copy>(
     alloc: Global,
     first: T,
@@ -53,7 +53,7 @@ fn run_first<T: Lanes, G: Gate, P: Patience + Copy>(
     )
 }
 
-/// Serves the scripts of these lanes, each in a thread of its own.
+/// Lets the forked lanes serve their scripts, and asks for a thread for each.
 fn run_slots<'a, R: Threads + Sync, T: Lanes, G: Gate, P: Patience + Copy + Send>(
     rt: &R,
     alloc: Global,
@@ -81,7 +81,7 @@ fn run_each<'a, R: Threads + Sync, T: Lanes, G: Gate, P: Patience + Copy + Send>
     }
 }
 
-/// Serves all scripts at once.
+/// Runs the forked lanes and, beside them, the first lane with its own script.
 fn run_all<'a, R: Threads + Sync, T: Lanes, G: Gate, P: Patience + Copy + Send>(
     rt: &R,
     alloc: Global,
@@ -146,7 +146,7 @@ fn run_from<R: Threads + Sync, T: Lanes, G: Gate, P: Patience + Copy + Send>(
     }
 }
 
-/// Serves each script by a session of its own, all at once: script 0 by `first`, and script i by its i-th fork.
+/// Gives each script a session of its own, and runs all at once: `first` serves script 0, its i-th fork script i.
 ///
 /// There is a worker for each script, and the caller's thread is one of them. Where a worker can't be started, its
 /// script is served on the caller's thread. A session takes its whole script, and may wait where patience has no end.

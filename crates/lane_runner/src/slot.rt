@@ -12,7 +12,7 @@ use session::{Patience, SessionEnd, serve};
 use std::alloc::Global;
 use std::marker::Model;
 
-/// What became of a script.
+/// The outcome of a script: what was answered, and why its session ended.
 #[derive(Debug, Drop)]
 pub struct LaneEnd {
     /// The replies to its lines, or some first bytes of them where memory was wanting.
@@ -51,7 +51,7 @@ impl<'a, T: Lanes, G, P: Patience> Model for Slot<'a, T, G, P> {
 }
 
 impl<'a, T: Lanes, G: Gate, P: Patience + Copy> Slot<'a, T, G, P> {
-    /// A lane that has served nothing of its script.
+    /// A lane with the whole of its script before it and no reply yet.
     pub(crate) fn new(
         alloc: Global,
         store: T,
@@ -75,7 +75,7 @@ impl<'a, T: Lanes, G: Gate, P: Patience + Copy> Slot<'a, T, G, P> {
         }
     }
 
-    /// Serves the script.
+    /// Runs the lane's session over its script, and keeps how it ended.
     pub(crate) fn run(&mut self, alloc: Global)
         ensures { Ran self.old self.new }
     {
@@ -98,7 +98,7 @@ impl<'a, T: Lanes, G: Gate, P: Patience + Copy> Slot<'a, T, G, P> {
         self.finish().0
     }
 
-    /// The lane, and what became of the script.
+    /// The lane without its gate, and the outcome of its script.
     pub(crate) fn finish(self) -> (T, LaneEnd)
         ensures lane { (T.lane result.0 ≡ self.entry.lane) × (T.origin result.0 ≡ self.entry.origin)
             × (T.refusals result.0 ≡ self.entry.refusals) × (T.seen result.0 ≡ self.entry.seen) }

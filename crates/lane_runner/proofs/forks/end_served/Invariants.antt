@@ -7,7 +7,7 @@ use Rattle.lane_runner.specs.Tasks.{AreDone, AreOf}
 use Rattle.lane_runner.proofs.Ending.{Ended}
 use Rattle.lane_runner.proofs.forks.end_served.Given as goal
 
--- some last lanes were ended, and the others are done
+-- the lanes popped so far are ended into the first one, which has seen their calls, and those left have served their scripts
 abbrev pub invariant-slots : goal.invariant-slots
 invariant-slots g l = record {
   lane : g.T.Ordered.lane l.first ≡ g.T.Ordered.lane l.fn.first;

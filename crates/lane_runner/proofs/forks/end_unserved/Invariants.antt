@@ -2,7 +2,7 @@ use Rattle.std.proofs.Common.{◌≡◌}
 use Rattle.lane_runner.specs.Tasks.{AreOf, HaveSeen}
 use Rattle.lane_runner.proofs.forks.end_unserved.Given as goal
 
--- nothing new was seen so far
+-- each lane ended so far had seen only what the first one has, which is as it was
 abbrev pub invariant-slots : goal.invariant-slots
 invariant-slots g l = record {
   seen : g.T.Lanes.seen l.first ≡ g.T.Lanes.seen l.fn.first;

@@ -3,7 +3,7 @@ use Rattle.std.specs.Prelude.{vec_capacity}
 use Rattle.lane_runner.specs.Tasks.{AreReady}
 use Rattle.lane_runner.proofs.forks.fork_slots.Given as goal
 
--- so many lanes are ready
+-- there is a ready lane for each script taken so far, and as much less room for forks
 abbrev pub invariant-loop-script : goal.invariant-loop-script
 invariant-loop-script g l = record {
   ready : AreReady (g.T.Ordered.origin l.fn.first) (g.T.Lanes.lanes l.fn.first) (g.P.Patience.limit l.patience) (g.T.Lanes.seen l.fn.first) (g.T.Ordered.lane l.fn.first + 1) (g.T.Lanes.next l.first) l.yielded l.slots.items;

@@ -3,7 +3,7 @@ use Rattle.std.proofs.lemmas.List.{take_at}
 use Rattle.outside.proofs.Pieces.{piece_given}
 use Rattle.lane_runner.proofs.script.ScriptSource.read.Goals as goal
 
--- what was copied is the next piece
+-- the bytes copied into the buffer are the script's next ones, from where the last read stopped
 pub returns-else-n-eq0-clause-bytes : goal.returns-else-n-eq0-clause-bytes
 returns-else-n-eq0-clause-bytes c =
     let at = c.args.self.now.at in
