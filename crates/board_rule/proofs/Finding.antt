@@ -36,6 +36,7 @@ module _ (k : Shape) (s : St) (o : Kept k s) (id : ℕ) (v : View) (at : get_ele
         sole = λ bare sole. sole_leaf k s o id v at sole leaf near bare;
         dated = λ bare n A e. dated t.0 t.1 bare n A e;
         aged = λ x before e. ((o.lasting id v at).aged x (leaf_word k leaf) before e).2 leaf near refl;
+        since = λ x y version before lt at-x at-y. (o.lasting id v at).since x y version leaf before lt at-x near at-y;
       }
     where
       other : (c : Cell) → get_elem? o.cells leaf ≡ some c → held_at v leaf ≡ None → (lane : ℕ) → v.lane ≡ Some lane → get_or s.words (leaf_word k leaf) 0 % 256 ≢ lane + 1
@@ -88,8 +89,21 @@ module _ (k : Shape) (s : St) (o : Kept k s) (id : ℕ) (v : View) (at : get_ele
   finds_turn = record {
     other = λ bare lane is. by o.turn refl bare lane is;
     sole = λ bare sole. sole_turn k s o id v at sole bare;
+    few = lanes o.turn refl;
   }
     where
+      lanes : (t : Turn) → o.turn ≡ t → get_or s.words TURN 0 ≤ 64
+      lanes None e = let w = o.turn_is ∙ ap turn_word e in omega arith
+      lanes (Some t) e =
+          let w = o.turn_is ∙ ap turn_word e in
+          let u = there s.views t.0 (o.turn_seat t e) in
+          let last = o.lasting t.0 u.0 u.1 in
+          let low = last.lane t.1 ((o.turns t.0 u.0 u.1).1 t e refl) in
+          let given = last.given in
+          let most = finds_given.few in
+          let all = o.numbers.few in
+          omega arith
+
       by : (t : Turn) → o.turn ≡ t → v.turn ≡ false → (lane : ℕ) → v.lane ≡ Some lane → get_or s.words TURN 0 ≢ lane + 1
       by None e bare lane is eq = let w = o.turn_is ∙ ap turn_word e in absurd (omega arith)
       by (Some t) e bare lane is eq =

@@ -19,7 +19,7 @@ use Rattle.leaf_spans.specs.Spread.{inside}
 use Rattle.board_rule.specs.Cells.{Cell, word_of, map_of, mine}
 use Rattle.board_rule.specs.Notes.{Note}
 use Rattle.board_rule.specs.Views.{GIVEN, looked}
-use Rattle.board_rule.specs.Rule.{leaf_word, home_of, CellOk, Placed, LaneIs, SeatBelow, Holds, Knows, Shares, Counted, expected, Turn, turn_word, Dated, TurnIs, NotesOk, CurrentOk, Tables, bit, is_some, counts, times, has_number, Numbers, IsMet, Lasts, Alone, Kept}
+use Rattle.board_rule.specs.Rule.{leaf_word, home_of, CellOk, Placed, LaneIs, SeatBelow, Holds, Knows, Shares, IsCounted, expected, Turn, turn_word, Dated, TurnIs, NotesOk, CurrentOk, Tables, bit, is_some, counts, times, has_number, Numbers, IsMet, Lasts, Alone, Kept}
 use Rattle.board_rule.specs.Steps.{Sat, Grew, Knew}
 use Rattle.board_rule.proofs.Lasting.{Rises, rises_same, rises_leaf, lasts_rise, lasts_look, look_now}
 use Rattle.board_rule.proofs.Tabled.{Agrees, agrees, agrees_set, tables_keep}
@@ -72,7 +72,7 @@ pub rebuild_all : (k : Shape) (s : St) (o : Kept k s) (id : ℕ) (v w : View) (w
     → IsLegal log' → IsNumbered log' → (w.seen ≡ log') ⊎ ((log' ≡ o.log) × (w.seen ≡ v.seen))
     → Knows log' w → ((j : ℕ) (u : View) → j ≢ id → get_elem? s.views j ≡ some u → Knows o.log u → Knows log' u)
     → ((n : ℕ) → get_or words' GIVEN 0 ≤ n → own n log' ≡ [])
-    → Tables k words' homes' now' (set s.views id w) → get_or words' 0 0 < 2 ^ 56 → Shares now' log' cells' → Counted k (get_or words' 0 0) now' log'
+    → Tables k words' homes' now' (set s.views id w) → get_or words' 0 0 < 2 ^ 56 → Shares now' log' cells' → IsCounted k (get_or words' 0 0) now' log'
     → ((i : ℕ) (c : Cell) → get_elem? cells' i ≡ some c → Dated (get_or words' 0 0) turn' c)
     → get_or words' 1 0 ≡ turn_word turn' → ((t : ℕ × ℕ) → turn' ≡ Some t → t.0 < length s.views)
     → TurnIs turn' id w → ((j : ℕ) (u : View) → j ≢ id → TurnIs o.turn j u → TurnIs turn' j u)
@@ -118,7 +118,7 @@ pub rebuild : (k : Shape) (s : St) (o : Kept k s) (id : ℕ) (v w : View) (words
     → IsLegal log' → IsNumbered log' → (w.seen ≡ log') ⊎ ((log' ≡ o.log) × (w.seen ≡ v.seen))
     → Knows log' w → ((j : ℕ) (u : View) → j ≢ id → get_elem? s.views j ≡ some u → Knows o.log u → Knows log' u)
     → ((n : ℕ) → get_or words' GIVEN 0 ≤ n → own n log' ≡ [])
-    → Agrees k s.words words' → get_elem? homes' k.leaves ≡ get_elem? s.homes k.leaves → w.pin ≡ v.pin → w.spare ≡ v.spare → Shares o.now log' cells' → Counted k (get_or s.words 0 0) o.now log'
+    → Agrees k s.words words' → get_elem? homes' k.leaves ≡ get_elem? s.homes k.leaves → w.pin ≡ v.pin → w.spare ≡ v.spare → Shares o.now log' cells' → IsCounted k (get_or s.words 0 0) o.now log'
     → get_or words' 0 0 ≡ get_or s.words 0 0 → get_or words' 1 0 ≡ get_or s.words 1 0 → dates cells' ≡ dates o.cells
     → ((i : ℕ) (c : Cell) → get_elem? cells' i ≡ some c → Dated (get_or s.words 0 0) o.turn c)
     → w.notes ≡ v.notes → w.turn ≡ v.turn → w.current ≡ v.current → w.lane ≡ v.lane
@@ -131,7 +131,7 @@ rebuild k s o id v w words' homes' cells' log' at placed held held_else legal nu
     λ u h. subst (λ (z : ℕ × List ℕ). NotesOk z.0 o.now z.1 u) (λ i. (sym version i, sym same i)) h in
     let t = o.turns id v at in
     rebuild_all k s o id v w words' homes' cells' log' o.now o.turn at placed held held_else legal numbered whole knows knows_else unborn
-    (tables_keep k s.words words' s.homes homes' o.now s.views id v w at agree lag_home pin lane_same spare (λ z. turn_same ∙ z) o.tables) (let z = o.bounded in omega arith) shares (subst (λ z. Counted k z o.now log') (sym version) counted)
+    (tables_keep k s.words words' s.homes homes' o.now s.views id v w at agree lag_home pin lane_same spare (λ z. turn_same ∙ z) o.tables) (let z = o.bounded in omega arith) shares (subst (λ z. IsCounted k z o.now log') (sym version) counted)
     (λ i c e. subst (λ x. Dated x o.turn c) (sym version) (dated i c e))
     (turn ∙ o.turn_is) o.turn_seat
     (turn_same ∙ t.0, (λ x a b. lane_same ∙ t.1 x a b)) (λ j u _ h. h)
@@ -225,7 +225,7 @@ releafed k s o id i n v w c c' homes' at near cell ok word same lane_mine others
     (each_set (λ _ d. Dated (get_or s.words 0 0) o.turn d) o.cells i c' dated (λ j d _ e. o.dated j d e)) notes turn current lane
     (each_set (λ _ d. SeatBelow (length s.views) d) o.cells i c' seat (λ j d _ e. o.seats j d e))
     (subst (λ g. Numbers k g (set s.views id w)) (sym (low_word k i s.words n)) (numbers_same k (get_or s.words GIVEN 0) s.views id v w at lane drawn room ended o.numbers))
-    (rises_leaf k s.words i n (let d : word_of c' / 256 ≡ word_of c / 256 = date in omega arith)) lasting alone
+    (let d : word_of c' / 256 ≡ word_of c / 256 = date in rises_leaf k s.words i n (omega arith) (inl (omega arith))) lasting alone
 
 -- a step that tells something by which the view grew tells that it grew
 pub with_grown : (k : Shape) (n id : ℕ) (m : Sat) (word : ℕ) (f : ℕ → ℕ) (then : ℕ → Sat → Type 0) → Allows (Kept k) n id m word f then → ((r : ℕ) (x : Sat) → then r x → Grew m.0 x.0) → Allows (Kept k) n id m word f (λ r x. then r x × Grew m.0 x.0)

@@ -1,5 +1,5 @@
 -- The rule is kept where a number is drawn for a lane, and where a view is split, copied or joined into another.
-use Rattle.std.proofs.Common.{◌≡◌, ℕ, zero, suc, ◌+◌, ◌%◌, ◌^◌, ◌<◌, ◌≤◌, eqb, cond, ◌≢◌, ◌⊎◌, List, [], ◌∷◌, ◌++◌, map, length, get_or, set, sym, refl, ap, ◌∙◌, subst, inl, inr, ⊎_elim, arith, length-set, get_or-set_other, get_or-set_same, Option, Some, None, true, false, true≢false, eq-eqb, ne_eqb, lt-ltb, le-ltb, length-append, ◌-◌, nat_lt}
+use Rattle.std.proofs.Common.{◌≡◌, ℕ, zero, suc, ◌+◌, ◌/◌, ◌%◌, ◌^◌, ◌<◌, ◌≤◌, eqb, cond, ◌≢◌, ◌⊎◌, List, [], ◌∷◌, ◌++◌, map, length, get_or, set, sym, refl, ap, ◌∙◌, subst, inl, inr, ⊎_elim, arith, length-set, get_or-set_other, get_or-set_same, Option, Some, None, true, false, true≢false, eq-eqb, ne_eqb, lt-ltb, le-ltb, length-append, ◌-◌, nat_lt}
 use Rattle.std.proofs.lemmas.List.{append-nil}
 use mathlib.Core.Logic.{dite}
 use mathlib.Core.Option.{some, some-injective, some-ne-none}
@@ -15,13 +15,13 @@ use Rattle.board_rule.specs.declared.leaf.Place.{Place}
 use mathlib.Core.List.{IsPrefix}
 use Rattle.map_model.specs.History.{Entry, own}
 use Rattle.board_rule.specs.Cells.{Holding, Cell, free, taken, mine}
-use Rattle.board_rule.specs.Views.{GIVEN, enrolled, nothing, kept_half, new_half, drew, option_list, lanes_of, longer, greater, both_views, spent_of, HoldsNone}
-use Rattle.board_rule.specs.Rule.{leaf_word, LaneIs, SeatBelow, Holds, Knows, LagIs, expected, Turn, has_turn, TurnIs, NotesOk, CurrentOk, bit, is_some, counts, times, has_number, total, IsMet, Numbers, LookOk, Lasts, Alone, Kept}
+use Rattle.board_rule.specs.Views.{VERSION, GIVEN, enrolled, nothing, kept_half, new_half, drew, option_list, lanes_of, longer, greater, both_views, spent_of, HoldsNone}
+use Rattle.board_rule.specs.Rule.{leaf_word, LaneIs, SeatBelow, Holds, Knows, LagIs, expected, Turn, has_turn, TurnIs, NotesOk, CurrentOk, bit, is_some, counts, times, has_number, total, IsMet, Numbers, Lasts, Alone, Kept}
 use Rattle.board_rule.specs.Steps.{Sat, Enrols, Meets}
 use Rattle.board_rule.specs.Pins.{Lagging, behind, clearing, spare_at, pin_on}
 use Rattle.board_rule.proofs.Tabled.{agrees_set, spare_else, IsLike, tables_views}
 use Rattle.board_rule.proofs.Histories.{begins_longer, own_between, begins_whole, own_none}
-use Rattle.board_rule.proofs.Lasting.{Rises, lasts_rise, lasts_look}
+use Rattle.board_rule.proofs.Lasting.{Rises, FoundNow, lasts_rise, lasts_look}
 use Rattle.board_rule.proofs.Sums.{at_below, each_set, each_split, each_join, total-append, total-set, total-same, total_lt, term_le, sum_to, sum_to_le, sum_to_one, counted_twice}
 use Rattle.board_rule.proofs.Parts.{placed_low}
 use Rattle.board_rule.proofs.Keeps.{St, board, rebuild, knew, Whole, bit_le}
@@ -59,8 +59,10 @@ enrols k n id m room none-drawn s o wide at _ =
       version = let z = get_or-set_other s.words GIVEN 0 (g + 1) 0 (λ e. omega arith) in omega arith;
       given = omega arith;
       dates = λ leaf near. let z = get_or-set_other s.words GIVEN (leaf_word k leaf) (g + 1) 0 (λ e. omega arith) in omega arith;
+      later = λ leaf near. inl (ap (λ (n : ℕ). n / 256) (get_or-set_other s.words GIVEN (leaf_word k leaf) (g + 1) 0 (λ e. omega arith)));
     } in
-    let look : LookOk k ws GIVEN g = ((λ e. absurd (omega arith)), (λ e. omega arith), (λ leaf near e. absurd (omega arith))) in (
+    let look : FoundNow k ws GIVEN g = record { ok = ((λ e. absurd (omega arith)), (λ e. omega arith), (λ leaf near e. absurd (omega arith))); date = λ leaf near e. absurd (omega arith) } in
+    let looks = lasts_look k ws v.looks v.given v.lane v.drawn v.ended GIVEN g look (lasts_rise k s.words ws v.looks v.given v.lane v.drawn v.ended rises old) in (
       w,
       keeps,
       tt,
@@ -68,7 +70,8 @@ enrols k n id m room none-drawn s o wide at _ =
           (rebuild k s o id v w (set s.words GIVEN (g + 1)) s.homes o.cells o.log at (placed_low k s.words s.homes o.cells GIVEN (g + 1) (omega arith) p) (o.held id v at) (λ j u _ h. h) o.legal o.numbered (inr (refl, refl)) (let t = o.seen id v at in record { begins = t.begins; mine = t.mine; ended = t.ended; drawn = λ x e. let is : g ≡ x = cc in o.unborn x (omega arith); met = t.met })
           (λ j u _ _ h. h) (λ x h. o.unborn x (omega arith)) (agrees_set k s.words GIVEN (g + 1) (λ e. omega arith) (λ e. omega arith) (λ e. omega arith) (omega arith)) refl refl refl o.shares o.counted
           (get_or-set_other s.words GIVEN 0 (g + 1) 0 (λ e. omega arith)) (get_or-set_other s.words GIVEN 1 (g + 1) 0 (λ e. omega arith)) refl o.dated refl refl refl refl o.seats (subst (λ x. Numbers k x (set s.views id w)) (sym now) numbers) rises record {
-            aged = (lasts_look k ws v.looks v.given v.lane v.drawn v.ended GIVEN g look (lasts_rise k s.words ws v.looks v.given v.lane v.drawn v.ended rises old)).aged;
+            aged = looks.aged;
+            since = looks.since;
             given = omega arith;
             lane = λ l e. let a = old.lane l e in omega arith;
             drawn = λ l e. let is : g ≡ l = cc in omega arith;
@@ -175,8 +178,8 @@ splits_as k id v number dr r apart sum-drawn sum-room given-drawn kept-drawn s o
         laneless = each_split (λ _ u. u.lane ≡ None → u.room ≡ 0) s.views id w y (λ e. let z = ns.laneless id v at e in omega arith) (λ j u _ e. ns.laneless j u e) (λ _. refl);
         few = ns.few;
       };
-      lasting = each_split (λ _ u. Lasts k s.words u) s.views id w y record { aged = old.aged; given = old.given; lane = old.lane; drawn = λ l e. old.drawn l (kept-drawn l e); ended = old.ended } (λ j u _ e. o.lasting j u e)
-          record { aged = λ x word found e. absurd (some-ne-none (word, found) (sym e)); given = old.given; lane = λ l e. old.drawn l (given-drawn l e); drawn = λ l e. absurd (cc); ended = λ i l e. absurd (some-ne-none l (sym e)) };
+      lasting = each_split (λ _ u. Lasts k s.words u) s.views id w y record { aged = old.aged; since = old.since; given = old.given; lane = old.lane; drawn = λ l e. old.drawn l (kept-drawn l e); ended = old.ended } (λ j u _ e. o.lasting j u e)
+          record { aged = λ x word found e. absurd (some-ne-none (word, found) (sym e)); since = λ x y version leaf found lt e near f. absurd (some-ne-none (VERSION, version) (sym e)); given = old.given; lane = λ l e. old.drawn l (given-drawn l e); drawn = λ l e. absurd (cc); ended = λ i l e. absurd (some-ne-none l (sym e)) };
       alone = each_split (λ _ u. Alone s.words (length views') u) s.views id w y (λ e. absurd (off e)) (λ j u other e sole. absurd (others_not s.words s.views id j v u at e other (o.alone j u e) sole)) (λ e. absurd (off e));
     }
 
@@ -307,6 +310,7 @@ joins_views k id v other u its-lane laned bare idle unpinned s o at apart there'
       };
       lasting = each_join (λ _ x. Lasts k s.words x) s.views id other w y record {
         aged = old-v.aged;
+        since = old-v.since;
         given = greater_is (λ z. z ≤ get_or s.words GIVEN 0) v.given u.given (λ _. gv) (λ _. gu);
         lane = λ l e. let a = old-v.lane l e in omega arith;
         drawn = λ l e. let a = old-v.drawn l e in omega arith;
@@ -315,7 +319,7 @@ joins_views k id v other u its-lane laned bare idle unpinned s o at apart there'
             (λ (t : (j : ℕ) × (get_elem? (option_list u.lane) j ≡ some l)). let a = old-u.lane l (at_option u.lane t.0 l t.1) in omega arith)
             (at_append (v.ended ++ u.ended) (option_list u.lane) i l e);
       }
-          record { aged = λ x word found e. absurd (some-ne-none (word, found) (sym e)); given = omega arith; lane = λ l e. absurd (cc); drawn = λ l e. absurd (cc); ended = λ i l e. absurd (some-ne-none l (sym e)) }
+          record { aged = λ x word found e. absurd (some-ne-none (word, found) (sym e)); since = λ x y version leaf found lt e near f. absurd (some-ne-none (VERSION, version) (sym e)); given = omega arith; lane = λ l e. absurd (cc); drawn = λ l e. absurd (cc); ended = λ i l e. absurd (some-ne-none l (sym e)) }
           (λ j x _ _ e. o.lasting j x e);
       alone = each_join (λ _ x. Alone s.words (length views') x) s.views id other w y
           (λ sole. absurd (others_not s.words s.views other id u v there at (λ e. apart (sym e)) (o.alone id v at) sole)) (λ e. absurd (off e))

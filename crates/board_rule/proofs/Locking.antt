@@ -21,7 +21,7 @@ use Rattle.board_rule.specs.Views.{GIVEN, looked, held_at, holding, spotted, new
 use Rattle.board_rule.specs.Rule.{Placed, leaf_word, place_of, expected, has_turn, SeatBelow, Dated, Numbers, Lasts, Kept}
 use Rattle.board_rule.specs.Steps.{Sat, FindsLeaf, Sees, HasNote, InSpan, Locks, Gives, Unlocks, Grabs, Puts}
 use Rattle.leaf_spans.proofs.Calls.{answer_part, after_part, other_part}
-use Rattle.board_rule.proofs.Counting.{counted_call}
+use Rattle.board_rule.proofs.Counting.{call_counted}
 use Rattle.board_rule.proofs.Lasting.{rises_leaf, lasts_rise, lasts_look}
 use Rattle.board_rule.proofs.Tabled.{agrees_set}
 use Rattle.board_rule.proofs.Histories.{begins_more}
@@ -30,10 +30,10 @@ use Rattle.board_rule.proofs.Sums.{there, at_below, each_set}
 use Rattle.board_rule.proofs.Keeps.{St, board, Goes, rebuild, releafed, unmoved, knew, numbers_same, lone, lone_self, is_some_no, times_no, low_word, high_word, dates_same}
 use Rattle.board_rule.proofs.Finding.{finds_leaf}
 
--- a leaf's word that is as new or newer keeps what views found
-lasts_set : (k : Shape) (s : St) (o : Kept k s) (id : ℕ) (v : View) → get_elem? s.views id ≡ some v → (leaf n : ℕ) → get_or s.words (leaf_word k leaf) 0 / 256 ≤ n / 256 → leaf < k.leaves → Lasts k (set s.words (leaf_word k leaf) n) v
-lasts_set k s o id v at leaf n newer near = lasts_rise k s.words (set s.words (leaf_word k leaf) n) v.looks v.given v.lane v.drawn v.ended
-    (rises_leaf k s.words leaf n (let z = get_or-set_same s.words (leaf_word k leaf) n 0 (let y = o.placed.wide in omega arith) in omega arith)) (o.lasting id v at)
+-- a leaf's word that is as new keeps what views found
+lasts_set : (k : Shape) (s : St) (o : Kept k s) (id : ℕ) (v : View) → get_elem? s.views id ≡ some v → (leaf n : ℕ) → get_or s.words (leaf_word k leaf) 0 / 256 ≡ n / 256 → leaf < k.leaves → Lasts k (set s.words (leaf_word k leaf) n) v
+lasts_set k s o id v at leaf n same near = let z = get_or-set_same s.words (leaf_word k leaf) n 0 (let y = o.placed.wide in omega arith) in lasts_rise k s.words (set s.words (leaf_word k leaf) n) v.looks v.given v.lane v.drawn v.ended
+    (rises_leaf k s.words leaf n (omega arith) (inl (omega arith))) (o.lasting id v at)
 
 -- and so does the look of a lock
 locked_lasts : (k : Shape) (s : St) (o : Kept k s) (id leaf : ℕ) (v : View) (n before word : ℕ) → leaf < k.leaves → word ≡ leaf_word k leaf → (get_or s.words (leaf_word k leaf) 0 ≡ before) × (before / 256 ≡ n / 256) → get_elem? s.views id ≡ some v
@@ -42,7 +42,10 @@ locked_lasts k s o id leaf v n before word near is same at =
     let here = get_or-set_same s.words (leaf_word k leaf) n 0 (let y = o.placed.wide in omega arith) in
     let a = same.0 in let b = same.1 in
     lasts_look k (set s.words (leaf_word k leaf) n) v.looks v.given v.lane v.drawn v.ended word before
-    ((λ e. absurd (omega arith)), (λ e. absurd (omega arith)), (λ i lt e. let q : i ≡ leaf = omega arith in let z = ap (λ (j : ℕ). get_or (set s.words (leaf_word k leaf) n) (leaf_word k j) 0) q in omega arith))
+    (record {
+      ok = ((λ e. absurd (omega arith)), (λ e. absurd (omega arith)), (λ i lt e. let q : i ≡ leaf = omega arith in let z = ap (λ (j : ℕ). get_or (set s.words (leaf_word k leaf) n) (leaf_word k j) 0) q in omega arith));
+      date = λ i lt e. let q : i ≡ leaf = omega arith in let z = ap (λ (j : ℕ). get_or (set s.words (leaf_word k leaf) n) (leaf_word k j) 0) q in omega arith;
+    })
     (lasts_set k s o id v at leaf n (omega arith) near)
 
 -- the whole history, as a view with what it has seen can tell it
@@ -211,12 +214,12 @@ unlocks_some k n id m leaf word new lane h content d x A sp near is bare date mi
     (agrees_set k s.words (leaf_word k leaf) new (λ z. omega arith) (λ z. omega arith) (λ z. omega arith) (omega arith)) refl refl refl
     (each_set (λ j z. map_of z ≡ inside (span o.now j) (after log')) o.cells leaf c' becomes
     (λ j z other there'. o.shares j z there' ∙ (sym (other_part o.now are leaf j other sp span-is M up d.0 key) ∙ ap (inside (span o.now j)) (sym next))))
-    (counted_call k (get_or s.words 0 0) o.now are o.log e leaf sp span-is key replies small o.counted)
+    (call_counted k (get_or s.words 0 0) o.now are o.log e leaf sp span-is key replies small o.counted)
     (high_word k leaf 0 s.words new (omega arith)) (high_word k leaf 1 s.words new (omega arith)) (dates_same o.cells leaf c c' t.1 date)
     (each_set (λ _ z. Dated (get_or s.words 0 0) o.turn z) o.cells leaf c' (omega arith) (λ j z _ q. o.dated j z q)) refl refl refl refl
     (each_set (λ _ z. SeatBelow (length s.views) z) o.cells leaf c' tt (λ j z _ q. o.seats j z q))
     (subst (λ g. Numbers k g (set s.views id w)) (sym lw) (numbers_same k (get_or s.words GIVEN 0) s.views id v w at refl refl refl refl o.numbers))
-    (rises_leaf k s.words leaf new (let z = get_or-set_same s.words (leaf_word k leaf) new 0 (let y = p.wide in omega arith) in omega arith)) (lasts_set k s o id v at leaf new (omega arith) near)
+    (let z = get_or-set_same s.words (leaf_word k leaf) new 0 (let y = p.wide in omega arith) in rises_leaf k s.words leaf new (omega arith) (inl (omega arith))) (lasts_set k s o id v at leaf new (omega arith) near)
     (λ sole. (sole, λ z. ap (λ ws. set ws word new) z ∙ ap (λ i. set s.words i new) is)) in
     (w, keeps, tt, subst (λ i. Kept k (board (set s.words i new) s.homes (set s.views id w))) (sym is) moved, (o.log, refl, record { sees = sees k s o id v at; legal = legal-push o.log e o.legal replies; numbered = numbered-push o.log e o.numbered (ap length (sym same-own)); own_ended = λ i l q. own-push_other l o.log e (times_no lane v.ended i l q self.2) ∙ (o.seen id v at).ended i l q }))
 

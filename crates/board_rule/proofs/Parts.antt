@@ -83,7 +83,7 @@ held_set [] i h x e = absurd (cc)
 held_set (y ∷ ys) zero h x e = refl
 held_set (y ∷ ys) (suc i) h x e = held_set ys i h x e
 
-set_twice : (l : List (Option Holding)) (i : ℕ) (x y : Option Holding) → set (set l i x) i y ≡ set l i y
+pub set_twice : (l : List (Option Holding)) (i : ℕ) (x y : Option Holding) → set (set l i x) i y ≡ set l i y
 set_twice [] i x y = refl
 set_twice (z ∷ zs) zero x y = refl
 set_twice (z ∷ zs) (suc i) x y = ap (λ l. z ∷ l) (set_twice zs i x y)

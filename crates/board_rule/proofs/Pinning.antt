@@ -21,7 +21,7 @@ use Rattle.board_rule.specs.Cells.{Cell}
 use Rattle.board_rule.specs.Pins.{Pin, LagSpot, lag_home, lag_moving, Spare, Lagging, behind, clearing, spare_at, pin_on}
 use Rattle.board_rule.specs.Notes.{note_of}
 use Rattle.board_rule.specs.Views.{VERSION, GIVEN, PINS, looked, unchecked, checked, unpinned, cleared, written, lagged}
-use Rattle.board_rule.specs.Rule.{leaf_word, word_count, row_count, lag_place, Placed, LaneIs, table_at, rows_of, PinOk, PinIs, Behind, Clearing, LagIs, PinPlaced, Tables, Dated, has_turn, counts, bit, is_some, has_number, total, IsMet, Numbers, Counted, NotesOk, CurrentOk, Lasts, Kept}
+use Rattle.board_rule.specs.Rule.{leaf_word, word_count, row_count, lag_place, Placed, LaneIs, table_at, rows_of, PinOk, PinIs, Behind, Clearing, LagIs, PinPlaced, Tables, Dated, has_turn, counts, bit, is_some, has_number, total, IsMet, Numbers, IsCounted, NotesOk, CurrentOk, Lasts, Kept}
 use Rattle.board_rule.specs.Steps.{Sat, note_or, current, anchors_now, Pinned, Checks, Unpinned, Clears, GrabsLag, PutsLag, kept_spare, pin_of, the_check, Reads}
 use Rattle.board_rule.proofs.Sums.{there, at_below, each_set, total-same, total-set, term_le, total_le, sum_to, sum_to_le, sum_to_one, counted_twice}
 use Rattle.board_rule.proofs.Tabled.{segment_out, segment_in, segment_at, lag_keep, pin_keep, pin_tables_keep, cleared_by, spare_else, spare_here}
@@ -99,7 +99,7 @@ tabled k s o id v w words' homes' at long slots leaves places version turn-word 
       drawn = λ x e. known.drawn x (sym drawn ∙ e);
       met = λ x y e. subst (λ z. IsMet z y) (sym seen) (known.met x y (ap (λ l. get_elem? l x) (sym met) ∙ e));
     }
-    (λ j u _ _ q. q) (λ x q. o.unborn x (omega arith)) tables (let z = o.bounded in omega arith) o.shares (subst (λ x. Counted k x o.now o.log) (sym version) o.counted)
+    (λ j u _ _ q. q) (λ x q. o.unborn x (omega arith)) tables (let z = o.bounded in omega arith) o.shares (subst (λ x. IsCounted k x o.now o.log) (sym version) o.counted)
     (λ i c e. subst (λ x. Dated x o.turn c) (sym version) (o.dated i c e)) (turn-word ∙ o.turn_is) o.turn_seat
     (turn-same ∙ (o.turns id v at).0, (λ t a b. lane ∙ (o.turns id v at).1 t a b)) (λ j u _ q. q)
     (subst (λ x. NotesOk x o.now (dates o.cells) w.notes) (sym version) notes) (λ u q. subst (λ x. NotesOk x o.now (dates o.cells) u) (sym version) q)

@@ -1,5 +1,5 @@
 -- The rule is kept where a version is published, by which one leaf is split or two are merged.
-use Rattle.std.proofs.Common.{◌≡◌, ◌≢◌, ℕ, ◌+◌, ◌/◌, ◌<◌, ◌≤◌, List, [], ◌∷◌, ◌++◌, length, get_or, set, take, drop, sym, refl, ap, ◌∙◌, subst, inr, arith, get_or-set_other, get_or-set_same, Option, Some, None, true, false, true≢false, is_some, ne_eqb}
+use Rattle.std.proofs.Common.{◌≡◌, ◌≢◌, ℕ, ◌+◌, ◌/◌, ◌<◌, ◌≤◌, List, [], ◌∷◌, ◌++◌, length, get_or, set, take, drop, sym, refl, ap, ◌∙◌, subst, inl, inr, arith, get_or-set_other, get_or-set_same, Option, Some, None, true, false, true≢false, is_some, ne_eqb}
 use mathlib.Core.Option.{some, some-injective}
 use lib.ListN.{get_elem?}
 use Rattle.atomic_table.specs.Table.{keeps, Allows}
@@ -24,10 +24,10 @@ use Rattle.board_rule.specs.Pins.{lag_home, Spare}
 use Rattle.board_rule.specs.Cells.{Map, Holding, Cell, taken, map_of, mine}
 use Rattle.board_rule.specs.Views.{GIVEN, held_at, remapped, published, has}
 use Rattle.board_rule.specs.Notes.{Note, note_of}
-use Rattle.board_rule.specs.Rule.{leaf_word, SeatBelow, Counted, expected, has_turn, Dated, NotesOk, Numbers, Kept}
+use Rattle.board_rule.specs.Rule.{leaf_word, SeatBelow, IsCounted, expected, has_turn, Dated, NotesOk, Numbers, Kept}
 use Rattle.board_rule.specs.Steps.{Sat, current, anchors_now, Publishable, changed, Publishes}
 use Rattle.board_rule.proofs.Sums.{at_below, each_set}
-use Rattle.board_rule.proofs.Counting.{counted_split, counted_merge}
+use Rattle.board_rule.proofs.Counting.{split_counted, merge_counted}
 use Rattle.board_rule.proofs.Lasting.{Rises, lasts_rise}
 use Rattle.board_rule.proofs.Tabled.{published_tables}
 use Rattle.board_rule.proofs.Parts.{mine_same, mine_other, holds_mine, holds_else, held_cell, placed_low}
@@ -38,7 +38,7 @@ use Rattle.board_rule.proofs.Turning.{note_is, notes_more, turn_of, placed_same,
 published_kept : (k : Shape) (s : St) (o : Kept k s) (id : ℕ) (v : View) (version new : ℕ) (A : Anchors) (c : Lag) (sp : Spare) (l r : ℕ) (ml mr : Map) (h g : Holding) → get_elem? s.views id ≡ some v
     → l < k.leaves → r < k.leaves → r ≢ l → v.current ≡ Some (version, A) → new ≡ version + 1 → held_at v l ≡ Some h → held_at v r ≡ Some g → h.word / 256 ≡ version + 1 → g.word / 256 ≡ version + 1
     → v.spare ≡ Some sp → sp.lag ≡ lag_home c → StandsFor k sp.rows (turned A c) → CanTurn o.now c
-    → ml ≡ inside (span (turned o.now c) l) (after o.log) → mr ≡ inside (span (turned o.now c) r) (after o.log) → ((i : ℕ) → i ≢ l → i ≢ r → span (turned o.now c) i ≡ span o.now i) → Counted k (get_or s.words 0 0 + 1) (turned o.now c) o.log
+    → ml ≡ inside (span (turned o.now c) l) (after o.log) → mr ≡ inside (span (turned o.now c) r) (after o.log) → ((i : ℕ) → i ≢ l → i ≢ r → span (turned o.now c) i ≡ span o.now i) → IsCounted k (get_or s.words 0 0 + 1) (turned o.now c) o.log
     → Kept k (board (set s.words 0 new) s.homes (set s.views id (published new (turned A c) l r ml mr h g v)))
 published_kept k s o id v version new A c sp l r ml mr h g at near-l near-r apart current next has-l has-r date-l date-r spare lag stands can left right else-span counted =
     let p = o.placed in
@@ -68,7 +68,7 @@ published_kept k s o id v version new A c sp l r ml mr h g at near-l near-r apar
     let else-l : (j : ℕ) → j ≢ id → mine j b' ≡ mine j b = λ j other. mine_other j id tl.0 h' (λ e. other (sym e)) ∙ sym (mine_other j id tl.0 h (λ e. other (sym e))) in
     let else-r : (j : ℕ) → j ≢ id → mine j d' ≡ mine j d = λ j other. mine_other j id tr.0 g' (λ e. other (sym e)) ∙ sym (mine_other j id tr.0 g (λ e. other (sym e))) in
     let are : AreAnchors now' = (subst (λ z. StandsFor k sp.rows (turned z c)) cur.1 stands).anchors in
-    let rises : Rises k s.words ws = record { version = omega arith; given = omega arith; dates = λ leaf near. let z = get_or-set_other s.words 0 (leaf_word k leaf) new 0 (λ e. omega arith) in omega arith } in
+    let rises : Rises k s.words ws = record { version = omega arith; given = omega arith; dates = λ leaf near. let z = get_or-set_other s.words 0 (leaf_word k leaf) new 0 (λ e. omega arith) in omega arith; later = λ leaf near. inl (ap (λ (n : ℕ). n / 256) (get_or-set_other s.words 0 (leaf_word k leaf) new 0 (λ e. omega arith))) } in
     let older : (l' : List Note) → NotesOk (get_or s.words 0 0) o.now (dates o.cells) l' → NotesOk (get_or ws 0 0) now' (dates cells') l'
     = λ l' notes x y e. let q = notes x y e in let le = q.known in record {
       known = omega arith;
@@ -93,7 +93,7 @@ published_kept k s o id v version new A c sp l r ml mr h g at near-l near-r apar
     (each_set (λ i z. map_of z ≡ inside (span now' i) M) cells₁ r d' right
     (λ i z not-r e. each_set (λ x y. x ≢ r → map_of y ≡ inside (span now' x) M) o.cells l b' (λ _. left)
     (λ x y not-l a not-r'. o.shares x y a ∙ ap (λ z. inside z M) (sym (else-span x not-l not-r'))) i z e not-r))
-    (subst (λ x. Counted k x now' o.log) (sym ver) counted)
+    (subst (λ x. IsCounted k x now' o.log) (sym ver) counted)
     (λ i z e. subst (λ x. Dated x o.turn z) (sym ver) (dated_on (get_or s.words 0 0) o.turn z
     (each_set (λ _ y. Dated (get_or s.words 0 0) o.turn y) cells₁ r d' (o.dated r d tr.1) (λ j y _ q. each_set (λ _ x. Dated (get_or s.words 0 0) o.turn x) o.cells l b' (o.dated l b tl.1) (λ j' x _ q'. o.dated j' x q') j y q) i z e)))
     (tw ∙ o.turn_is) o.turn_seat (o.turns id v at) (λ j u _ q. q)
@@ -133,7 +133,7 @@ publishes k ok n id m new c sp can next s o wide at _ = (changed new c m.0, keep
         (ap (λ z. take (stay_count (length z)) z) map-l ∙ (sym (split_stay o.now (after o.log) l r up more gone) ∙ ap (λ z. inside (span (with_split o.now l z r) l) (after o.log)) (sym is-a)))
         (ap (λ z. drop (stay_count (length z)) z) map-l ∙ (sym (split_go o.now (after o.log) l r up more gone) ∙ ap (λ z. inside (span (with_split o.now l z r) r) (after o.log)) (sym is-a)))
         (λ i nl nr. split_else o.now l a r i nl nr)
-        (subst (λ z. Counted k (get_or s.words 0 0 + 1) (with_split o.now l z r) o.log) (sym is-a) (counted_split k (get_or s.words 0 0) o.now are o.log l r (omega arith) many o.legal dead o.counted))
+        (subst (λ z. IsCounted k (get_or s.words 0 0 + 1) (with_split o.now l z r) o.log) (sym is-a) (split_counted k (get_or s.words 0 0) o.now are o.log l r (omega arith) many o.legal dead o.counted))
       where
         empty : (x : Option Span) → x ≡ None → 1 < length (inside x (after o.log)) → ⊥
         empty None e lt = omega arith
@@ -158,4 +158,4 @@ publishes k ok n id m new c sp can next s o wide at _ = (changed new c m.0, keep
         ((λ i. map-l i ++ map-r i) ∙ sym (merge_pairs o.now (after o.log) l r are.rises up beside))
         (sym (merge_emptied o.now (after o.log) l r are.rises up beside))
         (λ i nl nr. merge_else l r t.apart t.low t.middle t.high o.now i are.rises t.left t.right nl nr)
-        (counted_merge k (get_or s.words 0 0) o.now are o.log l r ok.merge_sum ok.hard.0 few beside o.counted)
+        (merge_counted k (get_or s.words 0 0) o.now are o.log l r ok.merge_sum ok.hard.0 few beside o.counted)

@@ -1,5 +1,5 @@
 -- The rule at the beginning: one view, one live leaf without keys, and both tables alike.
-use Rattle.std.proofs.Common.{◌≡◌, ℕ, zero, suc, ◌+◌, ◌*◌, ◌/◌, ◌<◌, ◌≤◌, List, [], ◌∷◌, ◌++◌, map, length, length-append, replicate, get_or, take, drop, sym, refl, ap, ◌∙◌, subst, arith, ◌%◌, Bool, eqb, cond, eq-eqb, ne_eqb, lt-ltb, Option, Some, None}
+use Rattle.std.proofs.Common.{◌≡◌, ℕ, zero, suc, ◌+◌, ◌*◌, ◌<◌, ◌≤◌, List, [], ◌∷◌, ◌++◌, map, length, length-append, replicate, get_or, take, drop, sym, refl, ap, ◌∙◌, subst, arith, ◌%◌, Bool, eqb, cond, eq-eqb, ne_eqb, lt-ltb, Option, Some, None}
 use Rattle.std.proofs.lemmas.List.{get_or-replicate, length-replicate, drop-drop, take_all}
 use mathlib.Core.Logic.{dite}
 use mathlib.Core.Option.{some, some-injective, some-ne-none}
@@ -11,11 +11,11 @@ use Rattle.row_words.specs.declared.shape.Shape.{Shape}
 use Rattle.row_words.specs.Shape.{IsShape}
 use Rattle.map_model.proofs.Histories.{begins_itself}
 use Rattle.anchor_rules.specs.Anchors.{Anchors, Span, span}
-use Rattle.anchor_rules.specs.Tally.{Tally, sizes_of}
-use Rattle.history_sizes.specs.Sizes.{new_keys}
-use Rattle.anchor_rules.proofs.Sizes.{sizes_first}
+use Rattle.map_model.specs.History.{after}
 use Rattle.meta_trie.specs.Stands.{StandsFor}
-use Rattle.leaf_spans.specs.Spread.{inside}
+use Rattle.leaf_spans.specs.Counting.{Counted}
+use Rattle.leaf_spans.specs.Spread.{inside, size_in}
+use Rattle.leaf_spans.proofs.Counts.{counted_first}
 use Rattle.board_rule.specs.declared.view.View.{View}
 use Rattle.meta_trie.specs.declared.lags.Lag.TheVariants.{Same}
 use Rattle.board_rule.specs.declared.leaf.Place.TheVariants.{Home, Lag as LagHome}
@@ -25,7 +25,7 @@ use Rattle.board_rule.specs.Pins.{Pin, behind, pin_on}
 use Rattle.board_rule.specs.Start.{AreFirst, view_at_start, places_at_start}
 use Rattle.board_rule.specs.Made.{front_words, words_at_start}
 use Rattle.board_rule.specs.Views.{VERSION, GIVEN, PINS, LEAVES}
-use Rattle.board_rule.specs.Rule.{leaf_word, word_count, row_count, table_at, rows_of, home_of, CellOk, LaneIs, SeatBelow, Holds, size_in, Dated, TurnIs, NotesOk, CurrentOk, PinIs, PinPlaced, bit, counts, total, Lasts, Alone, Kept, expected}
+use Rattle.board_rule.specs.Rule.{leaf_word, word_count, row_count, table_at, rows_of, home_of, CellOk, LaneIs, SeatBelow, Holds, Dated, TurnIs, NotesOk, CurrentOk, PinIs, PinPlaced, bit, counts, total, Lasts, Alone, Kept, expected}
 
 drop_front : (xs ys : List ℕ) (n : ℕ) → length xs ≡ n → drop n (xs ++ ys) ≡ ys
 drop_front [] ys zero e = refl
@@ -159,8 +159,7 @@ module _ (k : Shape) (ok : IsShape k) (ws : List ℕ) (are : AreFirst k ws) wher
           shares = each_cell (λ i c. map_of c ≡ inside (span first_anchors i) []) (λ i c lt e. (empty i c e).0 ∙ no_pairs (span first_anchors i));
           bounded = omega arith;
           counted = record {
-            tally = subst (λ (n : ℕ). Tally (sizes_of (size_in first_anchors []) first_anchors) (k.soft / 2) (new_keys []) n) (sym zero-version) (sizes_first (size_in first_anchors []) 0 (k.soft / 2) refl);
-            short = (omega arith, tt);
+            counted = subst (λ (n : ℕ). Counted first_anchors (size_in first_anchors (after [])) k.soft 0 n 0) (sym zero-version) (counted_first (size_in first_anchors (after [])) 0 k.soft refl);
             few = λ i. let z = ap length (no_pairs (span first_anchors i)) in omega arith;
           };
           dated = each_cell (λ _ c. Dated (get_or ws 0 0) None c) (λ i c lt e. omega arith);
@@ -179,7 +178,7 @@ module _ (k : Shape) (ok : IsShape k) (ws : List ℕ) (are : AreFirst k ws) wher
             laneless = one_view (λ _ u. u.lane ≡ None → u.room ≡ 0) v (λ e. absurd (cc));
             few = lanes.1;
           };
-          lasting = one_view (λ _ u. Lasts k ws u) v record { aged = λ x word found e. absurd (some-ne-none (word, found) (sym e)); given = omega arith; lane = λ l e. let z : 0 ≡ l = cc in omega arith; drawn = λ l e. absurd (cc); ended = λ i l e. absurd (some-ne-none l (sym e)) };
+          lasting = one_view (λ _ u. Lasts k ws u) v record { aged = λ x word found e. absurd (some-ne-none (word, found) (sym e)); since = λ x y version leaf found lt e near f. absurd (some-ne-none (VERSION, version) (sym e)); given = omega arith; lane = λ l e. let z : 0 ≡ l = cc in omega arith; drawn = λ l e. absurd (cc); ended = λ i l e. absurd (some-ne-none l (sym e)) };
           alone = one_view (λ _ u. Alone ws 1 u) v (λ _. (refl, refl));
         }
       where

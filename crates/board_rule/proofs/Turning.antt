@@ -17,7 +17,7 @@ use Rattle.board_rule.specs.Notes.{Note, note_of, IsLastNote}
 use Rattle.board_rule.specs.Pins.{Lagging, behind, clearing, spare_at}
 use Rattle.board_rule.specs.Cells.{Holding, Cell, free, taken, word_of}
 use Rattle.board_rule.specs.Views.{TURN, GIVEN, VERSION, looked, held_at, noted, has_taken, has_given, worded, raised, has}
-use Rattle.board_rule.specs.Rule.{leaf_word, home_of, CellOk, Placed, SeatBelow, Counted, LagIs, expected, Turn, turn_word, has_turn, Dated, NoteOk, NotesOk, CurrentOk, Numbers, Kept}
+use Rattle.board_rule.specs.Rule.{leaf_word, home_of, CellOk, Placed, SeatBelow, IsCounted, LagIs, expected, Turn, turn_word, has_turn, Dated, NoteOk, NotesOk, CurrentOk, Numbers, Kept}
 use Rattle.board_rule.specs.Steps.{Sat, current, anchors_now, note_or, NoneAhead, Settled, SpareSettled, Notes, Turns, Unturns, Raises}
 use Rattle.board_rule.proofs.Sums.{there, at_below, each_set}
 use Rattle.board_rule.proofs.Tabled.{agrees, agrees_set, tables_keep, given_tables}
@@ -86,7 +86,7 @@ takes_turn k n id m lane mine-lane s o wide at _ = let v : View = m.0 in let fou
       keeps,
       tt,
       rebuild_all k s o id v w ws s.homes o.cells o.log o.now (Some (id, lane)) at (placed_low k s.words s.homes o.cells 1 (lane + 1) (omega arith) p) (o.held id v at) (λ j u _ h. h) o.legal o.numbered (inr (refl, refl)) (o.seen id v at) (λ j u _ _ h. h)
-          (λ x h. o.unborn x (omega arith)) (tables_keep k s.words ws s.homes s.homes o.now s.views id v w at (agrees_set k s.words 1 (lane + 1) (λ e. omega arith) (λ e. omega arith) (λ e. omega arith) (omega arith)) refl refl refl (sym (uncleared o.tables.lag v id (o.tables.spares id v at) (turnless k s.words s.homes o.now s.views o.tables.lag (λ j u a. (o.turns j u a).0 ∙ ap (has_turn j) bare) o.tables.lag_is))) (λ _. refl) o.tables) (let z = o.bounded in omega arith) o.shares (subst (λ x. Counted k x o.now o.log) (sym version) o.counted)
+          (λ x h. o.unborn x (omega arith)) (tables_keep k s.words ws s.homes s.homes o.now s.views id v w at (agrees_set k s.words 1 (lane + 1) (λ e. omega arith) (λ e. omega arith) (λ e. omega arith) (omega arith)) refl refl refl (sym (uncleared o.tables.lag v id (o.tables.spares id v at) (turnless k s.words s.homes o.now s.views o.tables.lag (λ j u a. (o.turns j u a).0 ∙ ap (has_turn j) bare) o.tables.lag_is))) (λ _. refl) o.tables) (let z = o.bounded in omega arith) o.shares (subst (λ x. IsCounted k x o.now o.log) (sym version) o.counted)
           (λ i c e. subst (λ x. Dated x (Some (id, lane)) c) (sym version) (dated_any (get_or s.words 0 0) id lane c (subst (λ t. Dated (get_or s.words 0 0) t c) bare (o.dated i c e))))
           (get_or-set_same s.words 1 (lane + 1) 0 (omega arith)) (λ t e. let z : id ≡ t.0 = cc in let b = at_below s.views id v at in omega arith)
           (sym (eq-eqb id id refl), (λ t e _. let z : lane ≡ t.1 = cc in mine-lane ∙ ap Some z))
@@ -116,7 +116,7 @@ gives_turn k n id m mine-turn none-ahead settled s o wide at _ = let v : View = 
       keeps,
       tt,
       rebuild_all k s o id v w ws s.homes o.cells o.log o.now None at (placed_low k s.words s.homes o.cells 1 0 (omega arith) p) (o.held id v at) (λ j u _ h. h) o.legal o.numbered (inr (refl, refl)) (o.seen id v at) (λ j u _ _ h. h)
-          (λ x h. o.unborn x (omega arith)) (given_tables k s.words ws s.homes o.now s.views id v w at (agrees_set k s.words 1 0 (λ e. omega arith) (λ e. omega arith) (λ e. omega arith) (omega arith)) refl refl refl (λ j u other a e. absurd (true≢false (sym e ∙ ((o.turns j u a).0 ∙ (ap (has_turn j) holder.1 ∙ ne_eqb id j (λ f. other (sym f))))))) (λ sp e. let q = settled sp e in subst (λ z. Settled k z sp) (o.current id v at q.1 q.0 q.2).1 q.3) o.tables) (let z = o.bounded in omega arith) o.shares (subst (λ x. Counted k x o.now o.log) (sym version) o.counted)
+          (λ x h. o.unborn x (omega arith)) (given_tables k s.words ws s.homes o.now s.views id v w at (agrees_set k s.words 1 0 (λ e. omega arith) (λ e. omega arith) (λ e. omega arith) (omega arith)) refl refl refl (λ j u other a e. absurd (true≢false (sym e ∙ ((o.turns j u a).0 ∙ (ap (has_turn j) holder.1 ∙ ne_eqb id j (λ f. other (sym f))))))) (λ sp e. let q = settled sp e in subst (λ z. Settled k z sp) (o.current id v at q.1 q.0 q.2).1 q.3) o.tables) (let z = o.bounded in omega arith) o.shares (subst (λ x. IsCounted k x o.now o.log) (sym version) o.counted)
           (λ i c e. subst (λ x. Dated x None c) (sym version) (undated i c e (get_or s.words 0 0) id holder.0 (λ l h is. let t = none-ahead i h (mine_held o.cells id i c v l h (o.held id v at) e is) in let z = (o.notes id v at t.2.0 (note_of t.0 t.1 t.2.1) t.2.2).known in let y = t.3 in omega arith) (subst (λ t. Dated (get_or s.words 0 0) t c) holder.1 (o.dated i c e))))
           (get_or-set_same s.words 1 0 0 (omega arith)) (λ t e. absurd (cc))
           (refl, (λ t e _. absurd (cc)))
@@ -152,7 +152,7 @@ raises k n id m leaf place word lane version A h near is mine-lane small has-it 
     let was : h.word / 256 ≤ get_or s.words 0 0 + 1 = subst (λ b. h.word / 256 ≤ cond b (get_or s.words 0 0 + 1) (get_or s.words 0 0)) holder (o.dated leaf c t.1) in
     let old : get_or s.words (leaf_word k leaf) 0 ≡ h.word = p.leaf_words leaf c t.1 in
     let here : get_or ws (leaf_word k leaf) 0 ≡ word = get_or-set_same s.words (leaf_word k leaf) word 0 (let z = p.wide in omega arith) in
-    let rises = rises_leaf k s.words leaf word (omega arith) in
+    let rises = rises_leaf k s.words leaf word (omega arith) (inr (omega arith)) in
     let newer : (u : List Note) → NotesOk (get_or s.words 0 0) o.now (dates o.cells) u → NotesOk (get_or ws 0 0) o.now (dates cells') u = λ u notes.
     subst (λ (z : ℕ × List ℕ). NotesOk z.0 o.now z.1 u) (λ i. (sym ver i, sym ds i))
     (λ x a e. let q = notes x a e in let le = q.known in record { known = le; are = q.are; spans = each_set (λ i d. d ≤ a.version → span a.anchors i ≡ span o.now i) (dates o.cells) leaf (word / 256) (λ late. absurd (omega arith)) (λ i d _ there' early. q.spans i d there' early) }) in
@@ -162,7 +162,7 @@ raises k n id m leaf place word lane version A h near is mine-lane small has-it 
     (holds_mine o.cells leaf id c' v w (o.held id v at) (ap (set v.held leaf) (sym (mine_same id t.0 g))) refl (λ e. (o.held id v at).1 leaf c t.1 refl))
     (λ j u other q. holds_else o.cells leaf j c c' u t.1 (mine_other j id t.0 g (λ e. other (sym e)) ∙ sym (mine_other j id t.0 h (λ e. other (sym e)))) (λ e. absurd (other (sym e))) q)
     o.legal o.numbered (inr (refl, refl)) (o.seen id v at) (λ j u _ _ q. q) (λ x q. o.unborn x (omega arith))
-    (tables_keep k s.words ws s.homes s.homes o.now s.views id v w at (agrees_set k s.words (leaf_word k leaf) word (λ e. omega arith) (λ e. omega arith) (λ e. omega arith) (omega arith)) refl refl refl refl (λ z. z) o.tables) (let z = o.bounded in omega arith) (shares_same o.now o.log o.cells leaf c c' t.1 refl o.shares) (subst (λ x. Counted k x o.now o.log) (sym ver) o.counted)
+    (tables_keep k s.words ws s.homes s.homes o.now s.views id v w at (agrees_set k s.words (leaf_word k leaf) word (λ e. omega arith) (λ e. omega arith) (λ e. omega arith) (omega arith)) refl refl refl refl (λ z. z) o.tables) (let z = o.bounded in omega arith) (shares_same o.now o.log o.cells leaf c c' t.1 refl o.shares) (subst (λ x. IsCounted k x o.now o.log) (sym ver) o.counted)
     (λ i d e. subst (λ x. Dated x o.turn d) (sym ver) (each_set (λ _ z. Dated (get_or s.words 0 0) o.turn z) o.cells leaf c' (subst (λ b. word / 256 ≤ cond b (get_or s.words 0 0 + 1) (get_or s.words 0 0)) (sym holder) (omega arith)) (λ j z _ q. o.dated j z q) i d e))
     (tw ∙ o.turn_is) o.turn_seat (o.turns id v at) (λ j u _ q. q) (newer v.notes (o.notes id v at)) newer
     (subst (λ x. CurrentOk x o.now w) (sym ver) (o.current id v at)) (λ j u _ _ q. subst (λ x. CurrentOk x o.now u) (sym ver) q)

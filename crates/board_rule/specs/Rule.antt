@@ -1,19 +1,18 @@
 -- The rule: what holds of the words, the places and the views between any two steps.
-use Rattle.std.specs.Prelude.{◌≡◌, ◌≢◌, ℕ, ◌+◌, ◌/◌, ◌*◌, ◌%◌, ◌^◌, ◌<◌, ◌≤◌, List, [], ◌∷◌, map, length, slice_index, Bool, true, false, cond, ◌==◌, nat_lt, Option, Some, None}
+use Rattle.std.specs.Prelude.{◌≡◌, ◌≢◌, ℕ, ◌+◌, ◌/◌, ◌*◌, ◌%◌, ◌^◌, ◌<◌, ◌≤◌, ◌⊎◌, List, [], ◌∷◌, map, length, slice_index, Bool, true, false, cond, ◌==◌, nat_lt, Option, Some, None}
 use mathlib.Core.Option.{some}
 use mathlib.Core.Option as maybe
 use mathlib.Core.List.{IsPrefix}
 use lib.ListN.{get_elem?}
-use Rattle.std.specs.List.{AllByRecursion}
 use Rattle.atomic_table.specs.Table.{State}
 use Rattle.row_words.specs.declared.shape.Shape.{Shape}
 use Rattle.row_words.specs.Layout as layout
 use Rattle.map_model.specs.History.{Entry, after, IsLegal, own, IsNumbered}
 use Rattle.history_sizes.specs.Sizes.{new_keys, longest_new}
 use Rattle.anchor_rules.specs.Anchors.{Anchors, AreAnchors, span}
-use Rattle.anchor_rules.specs.Tally.{Tally, sizes_of}
 use Rattle.meta_trie.specs.Stands.{StandsFor}
-use Rattle.leaf_spans.specs.Spread.{inside}
+use Rattle.leaf_spans.specs.Counting.{Counted, AreFew}
+use Rattle.leaf_spans.specs.Spread.{inside, size_in}
 use Rattle.board_rule.specs.declared.view.View.{View}
 use Rattle.meta_trie.specs.declared.lags.Lag.{Lag}
 use Rattle.board_rule.specs.declared.leaf.Place.{Place}
@@ -101,14 +100,10 @@ Knows log v = Saw log v.lane v.drawn v.ended v.seen v.met
 abbrev pub Shares : Anchors → List Entry → List Cell → Type 0
 Shares now log cells = (i : ℕ) (c : Cell) → get_elem? cells i ≡ some c → map_of c ≡ inside (span now i) (after log)
 
-abbrev pub size_in : Anchors → List Entry → ℕ → ℕ
-size_in now log i = length (inside (span now i) (after log))
-
 -- The new keys bound the leaves' sizes and the number of versions, anchors are as short as new keys, and no leaf has more keys than it may.
-pub record Counted (k : Shape) (version : ℕ) (now : Anchors) (log : List Entry) : Type 0 where
-  pub tally : Tally (sizes_of (size_in now log) now) (k.soft / 2) (new_keys log) version
-  pub short : AllByRecursion (λ (x : List ℕ × ℕ). length x.0 ≤ longest_new log) now
-  pub few : (i : ℕ) → size_in now log i ≤ k.hard
+pub record IsCounted (k : Shape) (version : ℕ) (now : Anchors) (log : List Entry) : Type 0 where
+  pub counted : Counted now (size_in now (after log)) k.soft (new_keys log) version (longest_new log)
+  pub few : AreFew (size_in now (after log)) k.hard
 
 -- the version from which on a leaf has its span
 abbrev pub expected : Cell → ℕ
@@ -229,9 +224,15 @@ pub record Tables (k : Shape) (words : List ℕ) (homes : List (maybe.Option Pla
 abbrev pub LookOk : Shape → List ℕ → ℕ → ℕ → Type 0
 LookOk k words word found = ((word ≡ VERSION) → found ≤ slice_index words VERSION) × ((word ≡ GIVEN) → found ≤ slice_index words GIVEN) × ((leaf : ℕ) → leaf < k.leaves → word ≡ leaf_word k leaf → found / 256 ≤ slice_index words (leaf_word k leaf) / 256)
 
--- What a view found and was given, as words that only grow bear it out.
+-- the leaf's date is still the one that was found, or it is later than this version
+abbrev pub StaysOrLater : Shape → List ℕ → ℕ → ℕ → ℕ → Type 0
+StaysOrLater k words leaf found version = (slice_index words (leaf_word k leaf) / 256 ≡ found / 256) ⊎ (version < slice_index words (leaf_word k leaf) / 256)
+
+-- What a view found and was given, as words that only grow bear it out. A leaf's date that changed since a look is later than each version
+-- that was found before that look.
 pub record Lasting (k : Shape) (words : List ℕ) (its_looks : List (ℕ × ℕ)) (its_given : ℕ) (its_lane its_drawn : Option ℕ) (its_ended : List ℕ) : Type 0 where
   pub aged : (x word found : ℕ) → get_elem? its_looks x ≡ some (word, found) → LookOk k words word found
+  pub since : (x y version leaf found : ℕ) → x < y → get_elem? its_looks x ≡ some (VERSION, version) → leaf < k.leaves → get_elem? its_looks y ≡ some (leaf_word k leaf, found) → StaysOrLater k words leaf found version
   pub given : its_given ≤ slice_index words GIVEN
   pub lane : (l : ℕ) → its_lane ≡ Some l → l < its_given
   pub drawn : (l : ℕ) → its_drawn ≡ Some l → l < its_given
@@ -256,7 +257,7 @@ pub record Kept (k : Shape) (s : State Place View) : Type 0 where
   pub tables : Tables k s.words s.homes now s.views
   pub bounded : slice_index s.words VERSION < 2 ^ 56
   pub shares : Shares now log cells
-  pub counted : Counted k (slice_index s.words VERSION) now log
+  pub counted : IsCounted k (slice_index s.words VERSION) now log
   pub dated : (i : ℕ) (c : Cell) → get_elem? cells i ≡ some c → Dated (slice_index s.words VERSION) turn c
   pub turn_is : slice_index s.words TURN ≡ turn_word turn
   pub turn_seat : (t : ℕ × ℕ) → turn ≡ Some t → t.0 < length s.views

@@ -1,5 +1,5 @@
 -- What each step needs, and what it tells.
-use Rattle.std.specs.Prelude.{◌≡◌, ◌≢◌, ℕ, ◌+◌, ◌-◌, ◌%◌, ◌/◌, ◌^◌, false, ◌≤◌, length, take, drop, ◌<◌, List, [], ◌∷◌, ◌++◌, true, slice_index, Option, Some, None}
+use Rattle.std.specs.Prelude.{◌≡◌, ◌≢◌, ℕ, ◌+◌, ◌-◌, ◌%◌, ◌/◌, ◌^◌, false, ◌≤◌, ◌⊎◌, length, take, drop, ◌<◌, List, [], ◌∷◌, ◌++◌, true, slice_index, Option, Some, None}
 use mathlib.Core.Option.{some}
 use mathlib.Core.List.{IsPrefix}
 use lib.ListN.{get_elem?}
@@ -44,12 +44,13 @@ abbrev pub Knew : ℕ → View → ℕ → Type 0
 Knew word v found = v.sole ≡ true → found ≡ slice_index v.words word
 
 -- What the word of a leaf tells that the view doesn't hold: it names another lane or none, a sole view finds none, and under the turn
--- the leaf isn't newer than the version. Its date never falls.
+-- the leaf isn't newer than the version. Its date never falls, and where it rose since a look it is later than each version found before.
 pub record FindsLeaf (word leaf : ℕ) (v : View) (found : ℕ) : Type 0 where
   pub other : held_at v leaf ≡ None → (lane : ℕ) → v.lane ≡ Some lane → found % 256 ≢ lane + 1
   pub sole : held_at v leaf ≡ None → v.sole ≡ true → (found % 256 ≡ 0) × (found / 256 ≤ slice_index v.words VERSION)
   pub dated : held_at v leaf ≡ None → (n : ℕ) (A : Anchors) → v.current ≡ Some (n, A) → found / 256 ≤ n
   pub aged : (x before : ℕ) → get_elem? v.looks x ≡ some (word, before) → before / 256 ≤ found / 256
+  pub since : (x y version before : ℕ) → x < y → get_elem? v.looks x ≡ some (VERSION, version) → get_elem? v.looks y ≡ some (word, before) → (found / 256 ≡ before / 256) ⊎ (version < found / 256)
 
 -- What the version tells: it is no less than any that the view found or noted, and the same under the turn.
 pub record FindsVersion (v : View) (found : ℕ) : Type 0 where
@@ -64,10 +65,11 @@ pub record FindsGiven (k : Shape) (v : View) (found : ℕ) : Type 0 where
   pub given : v.given ≤ found
   pub few : found ≤ k.lanes
 
--- What the turn tells where the view hasn't it: another lane or none has it, and a sole view finds none.
+-- What the turn tells: it names a lane or none, and where the view hasn't it another lane or none. A sole view that hasn't it finds none.
 pub record FindsTurn (v : View) (found : ℕ) : Type 0 where
   pub other : v.turn ≡ false → (lane : ℕ) → v.lane ≡ Some lane → found ≢ lane + 1
   pub sole : v.turn ≡ false → v.sole ≡ true → found ≡ 0
+  pub few : found ≤ 64
 
 -- what a look tells: all that the rule ties to its word
 pub record Ties (k : Shape) (word : ℕ) (v : View) (found : ℕ) : Type 0 where

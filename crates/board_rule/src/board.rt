@@ -14,6 +14,7 @@ use crate::leaf::Place;
 use crate::opening::Opening;
 use crate::rule::{Does, Law, Meeting, Spends, Tells};
 use crate::view::View;
+use crate::words::FIRST_LEAF_WORD;
 use atomic_table::Table;
 use row_words::Shape;
 use std::alloc::Global;
@@ -72,7 +73,7 @@ impl Board {
         requires place { i < row_count self.now.shape }
         ensures { (result ≡ table_at self.now.shape table + i) × (result < word_count self.now.shape) }
     {
-        let first = 5 + self.shape.leaves;
+        let first = FIRST_LEAF_WORD + self.shape.leaves;
         if table == 0 {
             first + i
         } else {
@@ -80,11 +81,12 @@ impl Board {
         }
     }
 
-    pub(crate) fn leaf_word(&self, leaf: u32) -> usize
+    /// The place among the board's words of a leaf's word.
+    pub fn leaf_word(&self, leaf: u32) -> usize
         requires { leaf < self.now.shape.leaves }
         ensures { (result ≡ leaf_word self.now.shape leaf) × (result < word_count self.now.shape) }
     {
-        5 + leaf as usize
+        FIRST_LEAF_WORD as usize + leaf as usize
     }
 }
 

@@ -11,3 +11,6 @@ pub(crate) const LANES_GIVEN: usize = 2;
 
 /// How many pins are on table 0. The count for table 1 is the word after it.
 pub(crate) const PINS_WORD: usize = 3;
+
+/// The word of leaf 0. Those of the other leaves follow it, and behind them come the two tables.
+pub(crate) const FIRST_LEAF_WORD: u32 = 5;
