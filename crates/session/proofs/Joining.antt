@@ -57,7 +57,7 @@ module _ (limit : Option ℕ) (lane : ℕ) (sole : Bool) (fits less : List Entry
   served_at (Err (faults.Fault fault)) x seen now same told = told
   served_at (Err faults.NoMemory) x seen now same told = told
 
-  are_served_at : (pieces : List Exchange) (seen now : List Entry) → (IsTrue sole → now ≡ seen) → AreServed limit lane sole less now pieces → AreServed limit lane sole fits seen pieces
+  pub are_served_at : (pieces : List Exchange) (seen now : List Entry) → (IsTrue sole → now ≡ seen) → AreServed limit lane sole less now pieces → AreServed limit lane sole fits seen pieces
   are_served_at [] seen now same each = tt
   are_served_at (x ∷ pieces) seen now same each = (
     served_at x.asked x seen now same each.0,

@@ -49,6 +49,7 @@ pub(crate) fn put_patiently<O: Ordered, P: Patience>(
         (Stays (O.lane store.old) (O.sole store.old))) }
     ensures kept { (O.lane store.new ≡ O.lane store.old) × (O.sole store.new ≡ O.sole store.old)
         × (O.origin store.new ≡ O.origin store.old) × (P.limit patience.new ≡ P.limit patience.old) }
+    ensures forks { O.room store.new ≡ O.room store.old }
     ensures fits { (history : List Entry) → O.fits store.old history → O.fits store.new history }
     ensures told { Tells (P.limit patience.old) (O.sole store.old) (O.refusals store.old) (O.refusals store.new)
         (O.last store.new) result }
@@ -73,6 +74,7 @@ pub(crate) fn get_patiently<O: Ordered, P: Patience>(
         (Stays (O.lane store.old) (O.sole store.old))) }
     ensures kept { (O.lane store.new ≡ O.lane store.old) × (O.sole store.new ≡ O.sole store.old)
         × (O.origin store.new ≡ O.origin store.old) × (P.limit patience.new ≡ P.limit patience.old) }
+    ensures forks { O.room store.new ≡ O.room store.old }
     ensures fits { (history : List Entry) → O.fits store.old history → O.fits store.new history }
     ensures told { Tells (P.limit patience.old) (O.sole store.old) (O.refusals store.old) (O.refusals store.new)
         (O.last store.new) result }
@@ -93,6 +95,7 @@ pub(crate) fn del_patiently<O: Ordered, P: Patience>(
         (Stays (O.lane store.old) (O.sole store.old))) }
     ensures kept { (O.lane store.new ≡ O.lane store.old) × (O.sole store.new ≡ O.sole store.old)
         × (O.origin store.new ≡ O.origin store.old) × (P.limit patience.new ≡ P.limit patience.old) }
+    ensures forks { O.room store.new ≡ O.room store.old }
     ensures fits { (history : List Entry) → O.fits store.old history → O.fits store.new history }
     ensures told { Tells (P.limit patience.old) (O.sole store.old) (O.refusals store.old) (O.refusals store.new)
         (O.last store.new) result }
@@ -118,6 +121,7 @@ pub(crate) fn part_patiently<O: Ordered, P: Patience>(
         (Stays (O.lane store.old) (O.sole store.old))) }
     ensures kept { (O.lane store.new ≡ O.lane store.old) × (O.sole store.new ≡ O.sole store.old)
         × (O.origin store.new ≡ O.origin store.old) × (P.limit patience.new ≡ P.limit patience.old) }
+    ensures forks { O.room store.new ≡ O.room store.old }
     ensures fits { (history : List Entry) → O.fits store.old history → O.fits store.new history }
     ensures told { Tells (P.limit patience.old) (O.sole store.old) (O.refusals store.old) (O.refusals store.new)
         (O.last store.new) result }

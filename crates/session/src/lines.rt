@@ -43,6 +43,7 @@ pub(crate) fn serve_request<O: Ordered, K: Sink, P: Patience>(
         (λ asked. asked ≡ Ok (Some request.entry) ∷ []) (WritesPieces result (K.written sink.old) (K.written sink.new)) }
     ensures kept { (O.lane store.new ≡ O.lane store.old) × (O.sole store.new ≡ O.sole store.old)
         × (O.origin store.new ≡ O.origin store.old) × (P.limit patience.new ≡ P.limit patience.old) }
+    ensures forks { O.room store.new ≡ O.room store.old }
     ensures fits { (history : List Entry) → O.fits store.old history → O.fits store.new history }
     ensures cause { FaultsCounted (K.faults sink.old) (K.faults sink.new) result }
 {
@@ -85,6 +86,7 @@ pub(crate) fn serve_line<O: Ordered, K: Sink, P: Patience>(
     ensures quit { IfOk result (λ quit. quit ≡ has_quit (if_any (asked_for line.now))) }
     ensures kept { (O.lane store.new ≡ O.lane store.old) × (O.sole store.new ≡ O.sole store.old)
         × (O.origin store.new ≡ O.origin store.old) × (P.limit patience.new ≡ P.limit patience.old) }
+    ensures forks { O.room store.new ≡ O.room store.old }
     ensures fits { (history : List Entry) → O.fits store.old history → O.fits store.new history }
     ensures cause { FaultsCounted (K.faults sink.old) (K.faults sink.new) result }
 {
@@ -119,6 +121,7 @@ pub(crate) fn serve_told<O: Ordered, K: Sink, P: Patience>(
     ensures quit { IfOk result (λ quit. quit ≡ has_quit (asked_by_all (told_by event line.now))) }
     ensures kept { (O.lane store.new ≡ O.lane store.old) × (O.sole store.new ≡ O.sole store.old)
         × (O.origin store.new ≡ O.origin store.old) × (P.limit patience.new ≡ P.limit patience.old) }
+    ensures forks { O.room store.new ≡ O.room store.old }
     ensures fits { (history : List Entry) → O.fits store.old history → O.fits store.new history }
     ensures cause { FaultsCounted (K.faults sink.old) (K.faults sink.new) result }
 {
@@ -155,6 +158,7 @@ fn serve_next<O: Ordered, K: Sink, P: Patience>(
         Holds lines.new (open_part part (take result.0 piece.now)) }
     ensures kept { (O.lane store.new ≡ O.lane store.old) × (O.sole store.new ≡ O.sole store.old)
         × (O.origin store.new ≡ O.origin store.old) × (P.limit patience.new ≡ P.limit patience.old) }
+    ensures forks { O.room store.new ≡ O.room store.old }
     ensures fits { (history : List Entry) → O.fits store.old history → O.fits store.new history }
     ensures cause { FaultsCounted (K.faults sink.old) (K.faults sink.new) result.1 }
 {
@@ -204,6 +208,7 @@ pub(crate) fn serve_piece<O: Ordered, K: Sink, P: Patience>(
         IfOk result (λ quit. OnFalse quit (Holds lines.new (open_part part piece.now))) }
     ensures kept { (O.lane store.new ≡ O.lane store.old) × (O.sole store.new ≡ O.sole store.old)
         × (O.origin store.new ≡ O.origin store.old) × (P.limit patience.new ≡ P.limit patience.old) }
+    ensures forks { O.room store.new ≡ O.room store.old }
     ensures fits { (history : List Entry) → O.fits store.old history → O.fits store.new history }
     ensures cause { FaultsCounted (K.faults sink.old) (K.faults sink.new) result }
 {
@@ -237,6 +242,7 @@ pub(crate) fn serve_rest<O: Ordered, K: Sink, P: Patience>(
         IfOk result (λ quit. quit ≡ has_quit (asked_by_all (last_told part))) }
     ensures kept { (O.lane store.new ≡ O.lane store.old) × (O.sole store.new ≡ O.sole store.old)
         × (O.origin store.new ≡ O.origin store.old) × (P.limit patience.new ≡ P.limit patience.old) }
+    ensures forks { O.room store.new ≡ O.room store.old }
     ensures fits { (history : List Entry) → O.fits store.old history → O.fits store.new history }
     ensures cause { FaultsCounted (K.faults sink.old) (K.faults sink.new) result }
 {

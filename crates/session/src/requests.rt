@@ -30,6 +30,7 @@ pub(crate) fn serve_put<O: Ordered, K: Sink, P: Patience>(
         (WritesPieces result (K.written sink.old) (K.written sink.new)) }
     ensures kept { (O.lane store.new ≡ O.lane store.old) × (O.sole store.new ≡ O.sole store.old)
         × (O.origin store.new ≡ O.origin store.old) × (P.limit patience.new ≡ P.limit patience.old) }
+    ensures forks { O.room store.new ≡ O.room store.old }
     ensures fits { (history : List Entry) → O.fits store.old history → O.fits store.new history }
     ensures cause { FaultsCounted (K.faults sink.old) (K.faults sink.new) result }
 {
@@ -53,6 +54,7 @@ pub(crate) fn serve_get<O: Ordered, K: Sink, P: Patience>(
         (WritesPieces result (K.written sink.old) (K.written sink.new)) }
     ensures kept { (O.lane store.new ≡ O.lane store.old) × (O.sole store.new ≡ O.sole store.old)
         × (O.origin store.new ≡ O.origin store.old) × (P.limit patience.new ≡ P.limit patience.old) }
+    ensures forks { O.room store.new ≡ O.room store.old }
     ensures fits { (history : List Entry) → O.fits store.old history → O.fits store.new history }
     ensures cause { FaultsCounted (K.faults sink.old) (K.faults sink.new) result }
 {
@@ -80,6 +82,7 @@ pub(crate) fn serve_del<O: Ordered, K: Sink, P: Patience>(
         (WritesPieces result (K.written sink.old) (K.written sink.new)) }
     ensures kept { (O.lane store.new ≡ O.lane store.old) × (O.sole store.new ≡ O.sole store.old)
         × (O.origin store.new ≡ O.origin store.old) × (P.limit patience.new ≡ P.limit patience.old) }
+    ensures forks { O.room store.new ≡ O.room store.old }
     ensures fits { (history : List Entry) → O.fits store.old history → O.fits store.new history }
     ensures cause { FaultsCounted (K.faults sink.old) (K.faults sink.new) result }
 {

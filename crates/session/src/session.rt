@@ -60,6 +60,7 @@ pub fn serve<O: Ordered, S: Source, K: Sink, P: Patience>(
     ensures write { result ≡ SessionEnd.WriteFault → Rose (K.faults sink.old) (K.faults sink.new) }
     ensures kept { (O.lane store.new ≡ O.lane store.old) × (O.sole store.new ≡ O.sole store.old)
         × (O.origin store.new ≡ O.origin store.old) × (P.limit patience.new ≡ P.limit patience.old) }
+    ensures forks { O.room store.new ≡ O.room store.old }
     ensures fits { (history : List Entry) → O.fits store.old history → O.fits store.new history }
 {
     let end = serve_reads(alloc, store, source, sink, patience, budget);
@@ -85,6 +86,7 @@ fn serve_reads<O: Ordered, S: Source, K: Sink, P: Patience>(
     ensures write { result ≡ SessionEnd.WriteFault → Rose (K.faults sink.old) (K.faults sink.new) }
     ensures kept { (O.lane store.new ≡ O.lane store.old) × (O.sole store.new ≡ O.sole store.old)
         × (O.origin store.new ≡ O.origin store.old) × (P.limit patience.new ≡ P.limit patience.old) }
+    ensures forks { O.room store.new ≡ O.room store.old }
     ensures fits { (history : List Entry) → O.fits store.old history → O.fits store.new history }
 {
     let mut lines = match Lines::new(alloc) {
@@ -140,6 +142,7 @@ fn read_resting<O: Ordered, S: Source>(
     ensures seen { Follows (O.stands store.old) (O.stands store.new) (λ old new. new ≡ old) }
     ensures kept { (O.lane store.new ≡ O.lane store.old) × (O.sole store.new ≡ O.sole store.old)
         × (O.origin store.new ≡ O.origin store.old) }
+    ensures forks { O.room store.new ≡ O.room store.old }
     ensures fits { (history : List Entry) → O.fits store.old history → O.fits store.new history }
     ensures counted { (O.refusals store.new ≡ O.refusals store.old) × (O.last store.new ≡ O.last store.old) }
     ensures bound { ReadsAtMost result buf.new }

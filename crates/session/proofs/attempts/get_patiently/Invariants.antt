@@ -11,6 +11,7 @@ invariant-attempts g l = record {
   lane : g.O.Ordered.lane l.store ≡ g.O.Ordered.lane l.fn.store;
   sole : g.O.Ordered.sole l.store ≡ g.O.Ordered.sole l.fn.store;
   origin : g.O.Ordered.origin l.store ≡ g.O.Ordered.origin l.fn.store;
+  forks : g.O.Ordered.room l.store ≡ g.O.Ordered.room l.fn.store;
   limit : g.P.Patience.limit l.patience ≡ g.P.Patience.limit l.fn.patience;
   fits : (history : List Entry) → g.O.Ordered.fits l.fn.store history → g.O.Ordered.fits l.store history;
   stays : Follows (g.O.Ordered.stands l.fn.store) (g.O.Ordered.stands l.store) (Stays (g.O.Ordered.lane l.fn.store) (g.O.Ordered.sole l.fn.store));

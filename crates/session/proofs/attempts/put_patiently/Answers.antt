@@ -21,6 +21,7 @@ attempts-preserved g c =
       lane = call.kept.0 ∙ now.lane;
       sole = call.kept.1 ∙ now.sole;
       origin = call.kept.2 ∙ now.origin;
+      forks = call.forks ∙ now.forks;
       limit = c.again.ensures.limit ∙ now.limit;
       fits = λ history fit. call.fits history (now.fits history fit);
       stays = follows_stays_stays _ _ _ _ _ now.stays (rw (now.lane, now.sole) at call.refused);

@@ -17,6 +17,7 @@ invariant-parts g l = record {
   lane : g.O.Ordered.lane l.store ≡ g.O.Ordered.lane l.fn.store;
   sole : g.O.Ordered.sole l.store ≡ g.O.Ordered.sole l.fn.store;
   origin : g.O.Ordered.origin l.store ≡ g.O.Ordered.origin l.fn.store;
+  forks : g.O.Ordered.room l.store ≡ g.O.Ordered.room l.fn.store;
   limit : g.P.Patience.limit l.patience ≡ g.P.Patience.limit l.fn.patience;
   fits : (history : List Entry) → g.O.Ordered.fits l.fn.store history → g.O.Ordered.fits l.store history;
   later : g.O.Ordered.refusals l.fn.store ≤ g.O.Ordered.refusals l.store;

@@ -11,6 +11,7 @@ invariant-reads g l = record {
   lane : g.O.Ordered.lane l.store ≡ g.O.Ordered.lane l.fn.store;
   sole : g.O.Ordered.sole l.store ≡ g.O.Ordered.sole l.fn.store;
   origin : g.O.Ordered.origin l.store ≡ g.O.Ordered.origin l.fn.store;
+  forks : g.O.Ordered.room l.store ≡ g.O.Ordered.room l.fn.store;
   limit : g.P.Patience.limit l.patience ≡ g.P.Patience.limit l.fn.patience;
   fits : (history : List Entry) → g.O.Ordered.fits l.fn.store history → g.O.Ordered.fits l.store history;
   reads : g.S.Source.faults l.fn.source ≤ g.S.Source.faults l.source;
