@@ -7,7 +7,7 @@ use Rattle.counts.specs.Counts.{RoseBy}
 use Rattle.map_model.specs.History.{Entry, own}
 use Rattle.session.specs.declared.session.SessionEnd.{SessionEnd}
 use Rattle.lane_runner.specs.declared.slot.LaneEnd.{LaneEnd}
-use Rattle.lane_runner.specs.Runs.{ServesScript, AllServe, AllEnd}
+use Rattle.lane_runner.specs.Runs.{ServesScript, NothingFits, AllServe, AllEnd}
 use Rattle.lane_runner.specs.Tasks.{Task, AreDone}
 
 -- Each script was served by a lane of its own, as above, and the store that sees this history has seen all calls of each of them.
@@ -17,12 +17,12 @@ AllSeen has limit from most [] (end ∷ ends) owes before now = ⊥
 AllSeen has limit from most (script ∷ scripts) [] owes before now = ⊥
 AllSeen has limit from most (script ∷ scripts) (end ∷ ends) owes before now =
     (lane : ℕ) × (mine : ℕ) × (others : ℕ) × (from ≤ lane) × (lane < most) × (owes ≡ mine + others) × has lane
-    × ServesScript limit lane false script.items end.ending end.output mine before now
+    × ServesScript limit lane false NothingFits script.items end.ending end.output mine before now
     × AllSeen has limit (lane + 1) most scripts ends others before now
 
 -- What a lane served stays where the history goes on without entries of the lane; where the lane is alone, it doesn't go on.
-pub first_moves : (limit : Option ℕ) (lane : ℕ) (sole : Bool) (script : List ℕ) (end : SessionEnd) (output : List ℕ) (owes : ℕ) (before now next : List Entry) → own lane next ≡ own lane now → (IsTrue sole → next ≡ now) → ServesScript limit lane sole script end output owes before now → ServesScript limit lane sole script end output owes before next
-first_moves limit lane sole script end output owes before now next same alone s = record {
+pub first_moves : (limit : Option ℕ) (lane : ℕ) (sole : Bool) (fits : List Entry → Type 0) (script : List ℕ) (end : SessionEnd) (output : List ℕ) (owes : ℕ) (before now next : List Entry) → own lane next ≡ own lane now → (IsTrue sole → next ≡ now) → ServesScript limit lane sole fits script end output owes before now → ServesScript limit lane sole fits script end output owes before next
+first_moves limit lane sole fits script end output owes before now next same alone s = record {
   lines = s.lines;
   entries = s.entries;
   text = s.text;
@@ -35,8 +35,8 @@ first_moves limit lane sole script end output owes before now next same alone s 
 }
 
 -- so of a fork, which isn't alone
-serves_moves : (limit : Option ℕ) (lane : ℕ) (script : List ℕ) (end : SessionEnd) (output : List ℕ) (owes : ℕ) (before now next : List Entry) → own lane next ≡ own lane now → ServesScript limit lane false script end output owes before now → ServesScript limit lane false script end output owes before next
-serves_moves limit lane script end output owes before now next same = first_moves limit lane false script end output owes before now next same (λ is. absurd (false≢true is))
+serves_moves : (limit : Option ℕ) (lane : ℕ) (script : List ℕ) (end : SessionEnd) (output : List ℕ) (owes : ℕ) (before now next : List Entry) → own lane next ≡ own lane now → ServesScript limit lane false NothingFits script end output owes before now → ServesScript limit lane false NothingFits script end output owes before next
+serves_moves limit lane script end output owes before now next same = first_moves limit lane false NothingFits script end output owes before now next same (λ is. absurd (false≢true is))
 
 -- and of all forks
 pub seen_moves : (has more : ℕ → Type 0) (limit : Option ℕ) (from most : ℕ) (scripts : List (Vec ℕ Global)) (ends : List LaneEnd) (owes : ℕ) (before now next : List Entry)
@@ -68,7 +68,7 @@ pub record IsLast (most : ℕ) (limit : Option ℕ) (before : List Entry) (from 
   pub whole : scripts ≡ front ++ script ∷ []
   pub within : x.lane < most
   pub below : x.lane + 1 ≤ upto
-  pub served : (owes : ℕ) × ServesScript limit x.lane false script.items x.ending x.output owes before x.seen × RoseBy owes 0 x.refusals
+  pub served : (owes : ℕ) × ServesScript limit x.lane false NothingFits script.items x.ending x.output owes before x.seen × RoseBy owes 0 x.refusals
   pub others : AreDone most limit before from x.lane front xs
 
 pub done_split : (most : ℕ) (limit : Option ℕ) (before : List Entry) (from upto : ℕ) (scripts : List (Vec ℕ Global)) (xs : List Task) (x : Task) → AreDone most limit before from upto scripts (xs ++ x ∷ []) → IsLast most limit before from upto scripts xs x
@@ -103,7 +103,7 @@ ended_more has more most limit before from scripts left x ends end count next la
     let p = done_split most limit before from e.middle e.front left x e.done in
     let served = p.served in
     let there = serves_moves limit x.lane p.script.items x.ending x.output served.0 before x.seen later mine served.1 in
-    let here = subst (λ o. ServesScript limit x.lane false p.script.items end.ending o served.0 before later) (sym is_output) (subst (λ k. ServesScript limit x.lane false p.script.items k x.output served.0 before later) (sym is_ending) there) in
+    let here = subst (λ o. ServesScript limit x.lane false NothingFits p.script.items end.ending o served.0 before later) (sym is_output) (subst (λ k. ServesScript limit x.lane false NothingFits p.script.items k x.output served.0 before later) (sym is_ending) there) in
     let rest = seen_from more limit (x.lane + 1) e.middle most e.back (reverse ends) e.owes before later p.below (seen_moves has more limit e.middle most e.back (reverse ends) e.owes before now later goes e.seen) in
     let all : AllSeen more limit x.lane most (p.script ∷ e.back) (end ∷ reverse ends) (served.0 + e.owes) before later = (x.lane, served.0, e.owes, omega arith, p.within, refl, has_it, here, rest) in
     record {

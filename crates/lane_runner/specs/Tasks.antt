@@ -5,13 +5,14 @@ use Rattle.counts.specs.Counts.{RoseBy}
 use Rattle.map_model.specs.History.{Entry}
 use Rattle.outside.specs.Reading.{Told}
 use Rattle.session.specs.declared.session.SessionEnd.{SessionEnd}
-use Rattle.lane_runner.specs.Runs.{ServesScript}
+use Rattle.lane_runner.specs.Runs.{ServesScript, NothingFits}
 
 -- a lane, what is known of its store, its script, the replies so far and how its session ended
 pub record Task : Type 0 where
   pub lane : ℕ
   pub sole : Bool
   pub origin : ℕ
+  pub room : ℕ
   pub refusals : ℕ
   pub seen : List Entry
   pub limit : Option ℕ
@@ -24,6 +25,7 @@ pub record IsReady (origin most : ℕ) (limit : Option ℕ) (seen : List Entry) 
   pub within : t.lane < most
   pub among : t.sole ≡ false
   pub same_origin : t.origin ≡ origin
+  pub no_room : t.room ≡ 0
   pub uncounted : t.refusals ≡ 0
   pub same_seen : t.seen ≡ seen
   pub same_limit : t.limit ≡ limit
@@ -42,8 +44,9 @@ AreReady origin most limit seen from upto (script ∷ scripts) (t ∷ tasks) =
 pub record Ran (old new : Task) : Type 0 where
   pub same_lane : new.lane ≡ old.lane
   pub same_origin : new.origin ≡ old.origin
+  pub same_room : new.room ≡ old.room
   pub served : (origin most : ℕ) (limit : Option ℕ) (seen : List Entry) (script : List ℕ) → IsReady origin most limit seen script old
-      → (owes : ℕ) × ServesScript limit old.lane false script new.ending new.output owes seen new.seen × RoseBy owes 0 new.refusals
+      → (owes : ℕ) × ServesScript limit old.lane false NothingFits script new.ending new.output owes seen new.seen × RoseBy owes 0 new.refusals
 
 -- each of these lanes ran
 abbrev pub AllRan : List Task → List Task → Type 0
@@ -59,13 +62,13 @@ AreDone most limit before from upto [] (t ∷ tasks) = ⊥
 AreDone most limit before from upto (script ∷ scripts) [] = ⊥
 AreDone most limit before from upto (script ∷ scripts) (t ∷ tasks) =
     (from ≤ t.lane) × (t.lane < most)
-    × ((owes : ℕ) × ServesScript limit t.lane false script.items t.ending t.output owes before t.seen × RoseBy owes 0 t.refusals)
+    × ((owes : ℕ) × ServesScript limit t.lane false NothingFits script.items t.ending t.output owes before t.seen × RoseBy owes 0 t.refusals)
     × AreDone most limit before (t.lane + 1) upto scripts tasks
 
--- each lane belongs to the index of this origin
-abbrev pub AreOf : ℕ → List Task → Type 0
-AreOf origin [] = Unit {0}
-AreOf origin (t ∷ tasks) = (t.origin ≡ origin) × AreOf origin tasks
+-- each lane belongs to the index of this origin, and makes no forks itself
+abbrev pub AreForksOf : ℕ → List Task → Type 0
+AreForksOf origin [] = Unit {0}
+AreForksOf origin (t ∷ tasks) = (t.origin ≡ origin) × (t.room ≡ 0) × AreForksOf origin tasks
 
 -- all lanes have seen this history
 abbrev pub HaveSeen : List Entry → List Task → Type 0

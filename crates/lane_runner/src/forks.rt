@@ -3,8 +3,8 @@ ghost use Rattle.std.specs.Prelude.{◌≡◌, ◌≤◌, ◌<◌, ◌+◌, ℕ,
 ghost use Rattle.std.specs.declared.alloc.Global.{Global};
 ghost use mathlib.Core.List.{IsPrefix};
 ghost use Rattle.map_model.specs.History.{Entry, own};
-ghost use Rattle.lane_runner.specs.Runs.{AllEnd, TellsRoom};
-ghost use Rattle.lane_runner.specs.Tasks.{AreReady, AreDone, AreOf, HaveSeen};
+ghost use Rattle.lane_runner.specs.Runs.{AllEnd, TellsRoom, LeavesRoom};
+ghost use Rattle.lane_runner.specs.Tasks.{AreReady, AreDone, AreForksOf, HaveSeen};
 
 use crate::slot::{LaneEnd, Slot};
 use map_model::{ForkFault, Lanes};
@@ -24,6 +24,8 @@ pub(crate) fn fork_slots<'a, T: Lanes, G: Gate, P: Patience + Copy>(
     ensures ready { IfOk result (λ slots. (upto : ℕ) × AreReady (T.origin first.old) (T.lanes first.old)
         (P.limit patience) (T.seen first.old) (T.lane first.old + 1) upto scripts.items slots.items) }
     ensures room { TellsRoom (T.room first.old) (vec_len scripts) (T.lanes first.old) result }
+    ensures left { LeavesRoom (T.room first.old) (vec_len scripts) (T.room first.new) result }
+    ensures fits { (history : List Entry) → T.fits first.old history → OnOk result (T.fits first.new history) }
     ensures counted { OnOk result (T.refusals first.new ≡ T.refusals first.old) }
     ensures among { 0 < vec_len scripts → OnOk result (T.sole first.new ≡ false) }
     ensures alone { vec_len scripts ≡ 0 → T.sole first.new ≡ T.sole first.old }
@@ -55,9 +57,10 @@ fn end_unserved<'a, T: Lanes, G: Gate, P: Patience + Copy>(
     first: &mut T,
     mut slots: Vec<Slot<'a, T, G, P>>,
 )
-    requires origin { AreOf (T.origin first.old) slots.items }
+    requires origin { AreForksOf (T.origin first.old) slots.items }
     requires seen { HaveSeen (T.seen first.old) slots.items }
     ensures seen { T.seen first.new ≡ T.seen first.old }
+    ensures room { T.room first.new ≡ T.room first.old }
     ensures kept { (T.lane first.new ≡ T.lane first.old) × (T.sole first.new ≡ T.sole first.old)
         × (T.origin first.new ≡ T.origin first.old) }
 {
@@ -74,7 +77,7 @@ pub(crate) fn end_served<'a, R: Threads + Sync, T: Lanes, G: Gate, P: Patience +
     mut slots: Vec<Slot<'a, T, G, P>>,
     ends: &mut Vec<LaneEnd>,
 )
-    requires origin { AreOf (T.origin first.old) slots.items }
+    requires origin { AreForksOf (T.origin first.old) slots.items }
     requires room { vec_len ends.old + vec_len slots ≤ vec_capacity ends.old }
     ensures ended { (most : ℕ) (limit : Option ℕ) (before : List Entry) (upto : ℕ) (scripts : List (Vec ℕ Global))
         → AreDone most limit before (T.lane first.old + 1) upto scripts slots.entry.items → ends.old.items ≡ []
@@ -85,6 +88,7 @@ pub(crate) fn end_served<'a, R: Threads + Sync, T: Lanes, G: Gate, P: Patience +
     ensures begins { IsPrefix (T.seen first.old) (T.seen first.new) }
     ensures kept { (T.lane first.new ≡ T.lane first.old) × (T.sole first.new ≡ T.sole first.old)
         × (T.origin first.new ≡ T.origin first.old) }
+    ensures forks { T.room first.new ≡ T.room first.old }
     ensures room { vec_capacity ends.new ≡ vec_capacity ends.old }
     ensures len { vec_len ends.new ≡ vec_len ends.old + vec_len slots.entry }
 {

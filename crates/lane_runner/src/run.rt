@@ -1,7 +1,7 @@
 //! Runs each lane's script in a thread, and gathers the ends.
-ghost use Rattle.std.specs.Prelude.{◌≡◌, ◌<◌, ◌-◌, IfOk, OnErr, vec_len, reverse};
+ghost use Rattle.std.specs.Prelude.{◌≡◌, ◌<◌, ◌-◌, false, IfOk, OnErr, OnOk, vec_len, reverse};
 ghost use mathlib.Core.List.{IsPrefix};
-ghost use Rattle.lane_runner.specs.Runs.{FirstServes, LanesServe, TellsRoom};
+ghost use Rattle.lane_runner.specs.Runs.{FirstServes, LanesServe, PlacesServe, TellsRoom, LeavesRoom};
 ghost use Rattle.lane_runner.specs.Tasks.{AllRan, Ran};
 
 use crate::forks::{end_served, fork_slots};
@@ -27,10 +27,10 @@ fn run_first<T: Lanes, G: Gate, P: Patience + Copy>(
     mut patience: P,
     script: Vec<u8>,
 ) -> (T, LaneEnd)
-    ensures served { FirstServes (P.limit patience) (T.lane first) (T.sole first) script.items result.1
+    ensures served { FirstServes (P.limit patience) (T.lane first) (T.sole first) (T.fits first) script.items result.1
         (T.refusals first) (T.refusals result.0) (T.seen first) (T.seen result.0) }
     ensures kept { (T.lane result.0 ≡ T.lane first) × (T.sole result.0 ≡ T.sole first)
-        × (T.origin result.0 ≡ T.origin first) }
+        × (T.origin result.0 ≡ T.origin first) × (T.room result.0 ≡ T.room first) }
 {
     let mut store = Gated::new(first, gate, 0);
     let mut source = Script::new(script);
@@ -92,10 +92,10 @@ fn run_all<'a, R: Threads + Sync, T: Lanes, G: Gate, P: Patience + Copy + Send>(
     script: Vec<u8>,
 ) -> (Vec<Slot<'a, T, G, P>>, (T, LaneEnd))
     ensures ran { AllRan slots.entry.items result.0.items }
-    ensures served { FirstServes (P.limit patience) (T.lane first) (T.sole first) script.items result.1.1
+    ensures served { FirstServes (P.limit patience) (T.lane first) (T.sole first) (T.fits first) script.items result.1.1
         (T.refusals first) (T.refusals result.1.0) (T.seen first) (T.seen result.1.0) }
     ensures kept { (T.lane result.1.0 ≡ T.lane first) × (T.sole result.1.0 ≡ T.sole first)
-        × (T.origin result.1.0 ≡ T.origin first) }
+        × (T.origin result.1.0 ≡ T.origin first) × (T.room result.1.0 ≡ T.room first) }
 {
     join(
         rt,
@@ -122,10 +122,15 @@ fn run_from<R: Threads + Sync, T: Lanes, G: Gate, P: Patience + Copy + Send>(
 ) -> (T, Result<Vec<LaneEnd>, ForkFault>)
     requires { 0 < vec_len scripts }
     ensures ran { IfOk result.1 (λ ends. LanesServe (P.limit patience) (T.lane first) (T.sole result.0)
-        (T.lanes first) scripts.items ends.items (T.refusals first) (T.refusals result.0)
+        (T.fits first) (T.lanes first) scripts.items ends.items (T.refusals first) (T.refusals result.0)
+        (T.seen first) (T.seen result.0)) }
+    ensures places { T.lanes first ≡ vec_len scripts → IfOk result.1 (λ ends. PlacesServe (P.limit patience)
+        (T.sole result.0) (T.fits first) scripts.items ends.items (T.refusals first) (T.refusals result.0)
         (T.seen first) (T.seen result.0)) }
     ensures refused { OnErr result.1 (T.seen result.0 ≡ T.seen first) }
     ensures room { TellsRoom (T.room first) (vec_len scripts - 1) (T.lanes first) result.1 }
+    ensures left { LeavesRoom (T.room first) (vec_len scripts - 1) (T.room result.0) result.1 }
+    ensures among { 1 < vec_len scripts → OnOk result.1 (T.sole result.0 ≡ false) }
     ensures alone { vec_len scripts ≡ 1 → T.sole result.0 ≡ T.sole first }
     ensures begins { IsPrefix (T.seen first) (T.seen result.0) }
     ensures kept { (T.lane result.0 ≡ T.lane first) × (T.origin result.0 ≡ T.origin first) }
@@ -154,7 +159,8 @@ fn run_from<R: Threads + Sync, T: Lanes, G: Gate, P: Patience + Copy + Send>(
 /// calls of a script are numbered from 1. At the end all forks are ended into `first`.
 ///
 /// Refused are scripts that need more forks than `first` has room for, and any run for which there is no memory
-/// before it begins. Then nothing was served, and the forks that were made are ended too.
+/// before it begins. Then nothing was served, and the forks that were made are ended too. The room that a fork took
+/// doesn't come back with its end.
 pub fn run_lanes<R: Threads + Wait + Sync, T: Lanes, G: Gate, P: Patience + Copy + Send>(
     rt: &R,
     alloc: Global,
@@ -165,10 +171,15 @@ pub fn run_lanes<R: Threads + Wait + Sync, T: Lanes, G: Gate, P: Patience + Copy
 ) -> Result<Vec<LaneEnd>, ForkFault>
     requires { 0 < vec_len scripts }
     ensures ran { IfOk result (λ ends. LanesServe (P.limit patience) (T.lane first.old) (T.sole first.new)
-        (T.lanes first.old) scripts.items ends.items (T.refusals first.old) (T.refusals first.new)
-        (T.seen first.old) (T.seen first.new)) }
+        (T.fits first.old) (T.lanes first.old) scripts.items ends.items (T.refusals first.old)
+        (T.refusals first.new) (T.seen first.old) (T.seen first.new)) }
+    ensures places { T.lanes first.old ≡ vec_len scripts → IfOk result (λ ends. PlacesServe (P.limit patience)
+        (T.sole first.new) (T.fits first.old) scripts.items ends.items (T.refusals first.old)
+        (T.refusals first.new) (T.seen first.old) (T.seen first.new)) }
     ensures refused { OnErr result (T.seen first.new ≡ T.seen first.old) }
     ensures room { TellsRoom (T.room first.old) (vec_len scripts - 1) (T.lanes first.old) result }
+    ensures left { LeavesRoom (T.room first.old) (vec_len scripts - 1) (T.room first.new) result }
+    ensures among { 1 < vec_len scripts → OnOk result (T.sole first.new ≡ false) }
     ensures alone { vec_len scripts ≡ 1 → T.sole first.new ≡ T.sole first.old }
     ensures begins { IsPrefix (T.seen first.old) (T.seen first.new) }
     ensures kept { (T.lane first.new ≡ T.lane first.old) × (T.origin first.new ≡ T.origin first.old) }
@@ -179,10 +190,15 @@ pub fn run_lanes<R: Threads + Wait + Sync, T: Lanes, G: Gate, P: Patience + Copy
         |store, scripts| -> (T, Result<Vec<LaneEnd>, ForkFault>)
             requires { 0 < vec_len scripts }
             ensures { (IfOk result.1 (λ ends. LanesServe (P.limit patience) (T.lane store) (T.sole result.0)
-                (T.lanes store) scripts.items ends.items (T.refusals store) (T.refusals result.0)
+                (T.fits store) (T.lanes store) scripts.items ends.items (T.refusals store) (T.refusals result.0)
+                (T.seen store) (T.seen result.0)))
+                × (T.lanes store ≡ vec_len scripts → IfOk result.1 (λ ends. PlacesServe (P.limit patience)
+                (T.sole result.0) (T.fits store) scripts.items ends.items (T.refusals store) (T.refusals result.0)
                 (T.seen store) (T.seen result.0)))
                 × (OnErr result.1 (T.seen result.0 ≡ T.seen store))
                 × (TellsRoom (T.room store) (vec_len scripts - 1) (T.lanes store) result.1)
+                × (LeavesRoom (T.room store) (vec_len scripts - 1) (T.room result.0) result.1)
+                × (1 < vec_len scripts → OnOk result.1 (T.sole result.0 ≡ false))
                 × (vec_len scripts ≡ 1 → T.sole result.0 ≡ T.sole store)
                 × (IsPrefix (T.seen store) (T.seen result.0))
                 × (T.lane result.0 ≡ T.lane store) × (T.origin result.0 ≡ T.origin store) }

@@ -41,6 +41,7 @@ impl<'a, T: Lanes, G, P: Patience> Model for Slot<'a, T, G, P> {
       lane = T.lane s.store.store;
       sole = T.sole s.store.store;
       origin = T.origin s.store.store;
+      room = T.room s.store.store;
       refusals = T.refusals s.store.store;
       seen = T.seen s.store.store;
       limit = P.limit s.patience;
@@ -61,6 +62,7 @@ impl<'a, T: Lanes, G: Gate, P: Patience + Copy> Slot<'a, T, G, P> {
         script: Vec<u8>,
     ) -> Slot<'a, T, G, P>
         ensures lane { (result.lane ≡ T.lane store) × (result.sole ≡ T.sole store) × (result.origin ≡ T.origin store) }
+        ensures room { result.room ≡ T.room store }
         ensures seen { (result.seen ≡ T.seen store) × (result.refusals ≡ T.refusals store) }
         ensures limit { result.limit ≡ P.limit patience }
         ensures script { result.script ≡ record { given = []; left = script.items; ended = false } }
@@ -94,6 +96,7 @@ impl<'a, T: Lanes, G: Gate, P: Patience + Copy> Slot<'a, T, G, P> {
     pub(crate) fn into_lane(self) -> T
         ensures lane { (T.lane result ≡ self.entry.lane) × (T.origin result ≡ self.entry.origin)
             × (T.refusals result ≡ self.entry.refusals) × (T.seen result ≡ self.entry.seen) }
+        ensures room { T.room result ≡ self.entry.room }
     {
         self.finish().0
     }
@@ -102,6 +105,7 @@ impl<'a, T: Lanes, G: Gate, P: Patience + Copy> Slot<'a, T, G, P> {
     pub(crate) fn finish(self) -> (T, LaneEnd)
         ensures lane { (T.lane result.0 ≡ self.entry.lane) × (T.origin result.0 ≡ self.entry.origin)
             × (T.refusals result.0 ≡ self.entry.refusals) × (T.seen result.0 ≡ self.entry.seen) }
+        ensures room { T.room result.0 ≡ self.entry.room }
         ensures end { (result.1.output ≡ self.entry.output) × (result.1.ending ≡ self.entry.ending) }
     {
         let Slot {

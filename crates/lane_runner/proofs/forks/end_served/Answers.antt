@@ -1,7 +1,7 @@
 use Rattle.std.proofs.Common.{◌≡◌, ◌+◌, [], refl, subst, ap, arith, sym, ◌∙◌, rules}
 use Rattle.map_model.specs.History.{own}
 use Rattle.map_model.proofs.Histories.{begins_itself, begins_trans}
-use Rattle.lane_runner.specs.Tasks.{AreOf}
+use Rattle.lane_runner.specs.Tasks.{AreForksOf}
 use Rattle.lane_runner.proofs.Running.{of_split}
 use Rattle.lane_runner.proofs.Ending.{ended_none, ended_more, ended_all}
 use Rattle.lane_runner.proofs.forks.end_served.Goals as goal
@@ -10,6 +10,7 @@ pub slots-init : goal.slots-init
 slots-init g c = record {
   lane = refl;
   sole = refl;
+  forks = refl;
   origin = refl;
   of = c.requires.origin;
   begins = begins_itself _;
@@ -24,14 +25,14 @@ slots-init g c = record {
 pub end-requires : goal.end-requires
 end-requires g c =
     let now = c.slots.invariant in
-    let of = of_split _ _ _ (subst (AreOf (g.T.Ordered.origin c.args.first.now)) c.in-Some.ensures.items now.of) in
+    let of = of_split _ _ _ (subst (AreForksOf (g.T.Ordered.origin c.args.first.now)) c.in-Some.ensures.items now.of) in
     c.finish-lane.ensures.lane.1 ∙ (of.1 ∙ sym now.origin)
 
 pub slots-preserved : goal.slots-preserved
 slots-preserved g c =
     let now = c.slots.invariant in
     let laws = g.met.T.Lanes g.world.𝓛 g.world.𝓜 g.world.𝓡 ((λ s x. x), (λ x. x), (λ x. x), λ x. x) in
-    let of = of_split _ _ _ (subst (AreOf (g.T.Ordered.origin c.args.first.now)) c.in-Some.ensures.items now.of) in
+    let of = of_split _ _ _ (subst (AreForksOf (g.T.Ordered.origin c.args.first.now)) c.in-Some.ensures.items now.of) in
     let e = c.end.ensures in
     let f = c.finish-lane.ensures in
     let slot = c.in-Some.slot in
@@ -40,6 +41,7 @@ slots-preserved g c =
     record {
       lane = e.kept.0 ∙ now.lane;
       sole = e.kept.1 ∙ now.sole;
+      forks = omega (arith, e.room.0, e.room.1, f.room, of.2, now.forks);
       origin = e.kept.2 ∙ now.origin;
       of = of.0;
       begins = begins_trans _ _ _ now.begins e.begins.0;

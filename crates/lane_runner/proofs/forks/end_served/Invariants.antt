@@ -3,7 +3,7 @@ use Rattle.std.specs.Prelude.{vec_capacity}
 use Rattle.std.specs.declared.alloc.Global.{Global}
 use mathlib.Core.List.{IsPrefix}
 use Rattle.map_model.specs.History.{Entry, own}
-use Rattle.lane_runner.specs.Tasks.{AreDone, AreOf}
+use Rattle.lane_runner.specs.Tasks.{AreDone, AreForksOf}
 use Rattle.lane_runner.proofs.Ending.{Ended}
 use Rattle.lane_runner.proofs.forks.end_served.Given as goal
 
@@ -12,8 +12,9 @@ abbrev pub invariant-slots : goal.invariant-slots
 invariant-slots g l = record {
   lane : g.T.Ordered.lane l.first ≡ g.T.Ordered.lane l.fn.first;
   sole : g.T.Ordered.sole l.first ≡ g.T.Ordered.sole l.fn.first;
+  forks : g.T.Ordered.room l.first ≡ g.T.Ordered.room l.fn.first;
   origin : g.T.Ordered.origin l.first ≡ g.T.Ordered.origin l.fn.first;
-  of : AreOf (g.T.Ordered.origin l.fn.first) l.slots.items;
+  of : AreForksOf (g.T.Ordered.origin l.fn.first) l.slots.items;
   begins : IsPrefix (g.T.Lanes.seen l.fn.first) (g.T.Lanes.seen l.first);
   mine : own (g.T.Ordered.lane l.fn.first) (g.T.Lanes.seen l.first) ≡ own (g.T.Ordered.lane l.fn.first) (g.T.Lanes.seen l.fn.first);
   none : vec_len l.fn.slots ≡ 0 → g.T.Lanes.seen l.first ≡ g.T.Lanes.seen l.fn.first;

@@ -1,5 +1,6 @@
-use Rattle.std.proofs.Common.{◌≡◌, ◌≤◌, ◌<◌, ◌+◌, vec_len, length, false}
+use Rattle.std.proofs.Common.{◌≡◌, ◌≤◌, ◌<◌, ◌+◌, vec_len, length, false, List}
 use Rattle.std.specs.Prelude.{vec_capacity}
+use Rattle.map_model.specs.History.{Entry}
 use Rattle.lane_runner.specs.Tasks.{AreReady}
 use Rattle.lane_runner.proofs.forks.fork_slots.Given as goal
 
@@ -7,6 +8,7 @@ use Rattle.lane_runner.proofs.forks.fork_slots.Given as goal
 abbrev pub invariant-loop-script : goal.invariant-loop-script
 invariant-loop-script g l = record {
   ready : AreReady (g.T.Ordered.origin l.fn.first) (g.T.Lanes.lanes l.fn.first) (g.P.Patience.limit l.patience) (g.T.Lanes.seen l.fn.first) (g.T.Ordered.lane l.fn.first + 1) (g.T.Lanes.next l.first) l.yielded l.slots.items;
+  fits : (history : List Entry) → g.T.Ordered.fits l.fn.first history → g.T.Ordered.fits l.first history;
   less : g.T.Ordered.room l.fn.first ≡ g.T.Ordered.room l.first + length l.yielded;
   count : g.T.Ordered.refusals l.first ≡ g.T.Ordered.refusals l.fn.first;
   none : length l.yielded ≡ 0 → g.T.Ordered.sole l.first ≡ g.T.Ordered.sole l.fn.first;

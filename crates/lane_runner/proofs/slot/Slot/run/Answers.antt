@@ -7,13 +7,13 @@ pub returns : goal.returns
 returns g c =
     let s = c.serve-self-inside.ensures in
     let laws = g.met.T.Lanes g.world.𝓛 g.world.𝓜 g.world.𝓡 ((λ s x. x), (λ x. x), (λ x. x), λ x. x) in
-    let map_laws = g.met.T.Ordered g.world.𝓛 g.world.𝓜 g.world.𝓡 ((λ s x. x), (λ x. x), (λ x. x), λ x. x) in
     let store = c.serve-self-inside.new.store.store in
     rw (← c.self.view_is) record {
       same_lane = s.kept.0;
       same_origin = s.kept.2;
+      same_room = s.forks;
       served = λ origin most limit seen script ready.
           ready_serves _ _ _ _ _ _ _ _ _ _ _ _ _ _ _ _ _ _ _ (g.T.Lanes.seen store) _ s.session c.budget-budget.ensures ready.whole ready.silent ready.same_limit ready.among ready.uncounted ready.same_seen
-          (laws.stands_seen c.self.inside.store.store) (laws.only_seen store) (map_laws.stands_legal store _ (laws.stands_seen store))
+          (laws.stands_seen c.self.inside.store.store) (laws.only_seen store)
           (λ fault. absurd (omega (arith, s.read fault))) (λ fault. absurd (omega (arith, s.write fault)));
     }
