@@ -17,7 +17,7 @@ use Rattle.line_reader.proofs.Cutting.{told_lines-append, open_part-append}
 use Rattle.line_protocol.specs.Requests.{Asked, request}
 use Rattle.line_protocol.specs.Served.{served as served_lines, HasNoQuit}
 use Rattle.session.specs.Asked.{asked_by_all, has_quit, upto_quit}
-use Rattle.session.specs.Sessions.{TakenBy, ServedBy, SaidBy, StopsBy, Replies, InTurn, Session, stop_end, rest_end}
+use Rattle.session.specs.Sessions.{TakenBy, ServedBy, SaidBy, StopsBy, InTurn, Session, stop_end, rest_end}
 use Rattle.session.specs.Transcripts.{Exchange, Transcribes, asked_of, entries_of, text_of}
 use Rattle.session.specs.Turns.{IsTorn, WrotePieces, WritesPieces}
 use Rattle.session.specs.Writes.{Reaches}
