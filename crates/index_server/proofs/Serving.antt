@@ -1,0 +1,113 @@
+-- How the sessions of one connection after another add up.
+use Rattle.std.proofs.Common.{◌≡◌, ℕ, List, [], ◌∷◌, ◌++◌, map, Bool, false, ◌||◌, refl, sym, ap, subst, ◌∙◌, append_assoc, Option, Some, None, Result, Ok, Err}
+use Rattle.std.proofs.Math.Seq.{take-nil}
+use Rattle.std.proofs.lemmas.List.{append-nil}
+use Rattle.line_protocol.specs.Requests.{Asked}
+use Rattle.line_protocol.specs.Served.{served}
+use Rattle.map_model.specs.History.{Entry, IsLegal}
+use Rattle.map_model.specs.Ordered.{Follows, Grows}
+use Rattle.map_model.specs.declared.refusal.Refusal.{Refusal}
+use Rattle.map_model.proofs.Growing.{follows_weaker}
+use Rattle.outside.specs.Connections.{Connection, IsUnread, IsUnwritten, Closes}
+use Rattle.outside.specs.Moved.{moved}
+use Rattle.outside.specs.Reading.{Told, Took, Ended}
+use Rattle.outside.specs.Writing.{Wrote}
+use Rattle.outside.specs.declared.stop.Stop.{Stop}
+use Rattle.session.specs.Sessions.{Session, InTurn, SaidBy}
+use Rattle.session.specs.Transcripts.{Exchange, Transcribes, text_of}
+use Rattle.session.specs.declared.session.SessionEnd.{SessionEnd}
+use Rattle.session.specs.declared.session.SessionEnd.TheVariants as ends
+use Rattle.session.proofs.Joining.{transcribes_none, transcribes_then, transcribes_rest}
+use Rattle.session.proofs.PlainSessions.{written_by, wrote_by}
+use Rattle.index_server.specs.Connections.{IsSession, AreSessions, ClosedBehind, AreClosed, ServesClosed}
+use Rattle.index_server.specs.declared.connection.TheConstants.{CONNECTION_BYTES}
+
+-- an empty write leaves what was written
+pub wrote_none : (a b : Option (List ℕ)) (answer : Result ℕ Stop) → Wrote a b (moved answer []) → b ≡ a
+wrote_none None b answer wrote = wrote
+wrote_none (Some before) b (Ok n) wrote = wrote ∙ ap (λ more. Some (before ++ more)) (take-nil n) ∙ ap Some (append-nil before)
+wrote_none (Some before) b (Err stop) wrote = wrote ∙ ap Some (append-nil before)
+
+-- what a session said, where nothing had been said before
+said_first : (end : SessionEnd) (w v : Option (List ℕ)) (text : List ℕ) (said : SaidBy end w v text) → SaidBy end (Some []) (Some (written_by end w v text said)) text
+said_first ends.Quit w v text said = refl
+said_first ends.EndOfInput w v text said = refl
+said_first ends.ReadFault w v text said = refl
+said_first ends.WriteFault w v text said = (said.0, said.1, refl)
+said_first ends.NoMemory w v text said = (said.0, said.1, refl)
+said_first (ends.Spent taken) w v text said = refl
+
+-- where a door tells the connection that it closed, it is the one whose session it was
+closed_one : (before now : Option (List Connection)) (t u : Option Told) (w v : Option (List ℕ)) (bytes : List ℕ) (ended : Bool) (text : List ℕ)
+    → IsUnread t → IsUnwritten w → Took t u bytes → Ended t u ended → Wrote w v text → Closes before now u v → ClosedBehind before now (record { taken = bytes; ended = ended; written = text } ∷ [])
+closed_one before None t u w v bytes ended text unread unwritten took answered wrote closes = tt
+closed_one None (Some now) t u w v bytes ended text unread unwritten took answered wrote closes = absurd closes
+closed_one (Some before) (Some now) t None w v bytes ended text unread unwritten took answered wrote closes = absurd closes
+closed_one (Some before) (Some now) t (Some u) w None bytes ended text unread unwritten took answered wrote closes = absurd closes
+closed_one (Some before) (Some now) None (Some u) w (Some v) bytes ended text unread unwritten took answered wrote closes = absurd (cc took)
+closed_one (Some before) (Some now) (Some t) (Some u) None (Some v) bytes ended text unread unwritten took answered wrote closes = absurd (cc wrote)
+closed_one (Some before) (Some now) (Some t) (Some u) (Some w) (Some v) bytes ended text unread unwritten took answered wrote closes =
+    let given : u.given ≡ bytes = took.0 ∙ ap (λ g. g ++ bytes) unread.0 in
+    let zero : u.ended ≡ ended = answered.0 ∙ ap (λ e. e || ended) unread.1 in
+    let said : v ≡ text = (let s : Some v ≡ Some (w ++ text) = wrote in cc s) ∙ ap (λ x. x ++ text) unwritten in
+    closes ∙ (λ i. before ++ record { taken = given i; ended = zero i; written = said i } ∷ [])
+
+closed_then : (a b c : Option (List Connection)) (first second : List Connection) → ClosedBehind a b first → ClosedBehind b c second → ClosedBehind a c (first ++ second)
+closed_then a b None first second p q = tt
+closed_then a None (Some c) first second p q = absurd q
+closed_then None (Some b) (Some c) first second p q = absurd p
+closed_then (Some a) (Some b) (Some c) first second p q = q ∙ (ap (λ (l : List Connection). l ++ second) p ∙ append_assoc a first second)
+
+sessions_then : (first second : List Connection) (xs ys : List Exchange) → AreSessions first xs → AreSessions second ys → AreSessions (first ++ second) (xs ++ ys)
+sessions_then [] second xs ys none all = subst (λ l. AreSessions second (l ++ ys)) (sym none) all
+sessions_then (c ∷ first) second xs ys some all =
+    (some.0, some.1, some.2 ++ ys, ap (λ l. l ++ ys) some.3 ∙ append_assoc some.1 some.2 ys, some.4, sessions_then first second some.2 ys some.5 all)
+
+none_closed : (closed : Option (List Connection)) → ClosedBehind closed closed []
+none_closed None = tt
+none_closed (Some closed) = sym (append-nil closed)
+
+module _ (lane : ℕ) (sole : Bool) (fits : List Entry → Type 0) where
+  -- no connection yet
+  pub serves_none : (a : List Entry → Type 0) (count : ℕ) (last : Option Refusal) (closed : Option (List Connection)) → ((old : List Entry) → a old → IsLegal old) → Follows a a (ServesClosed lane sole fits count count last last closed closed)
+  serves_none a count last closed legal = transcribes_none None lane sole fits a count last _ (AreClosed closed closed) legal tt ([], none_closed closed, refl)
+
+  -- the store rested first
+  pub serves_rested : (a b : List Entry → Type 0) (i j : ℕ) (u v : Option Refusal) (closed : Option (List Connection)) → ((old : List Entry) → a old → IsLegal old) → j ≡ i → v ≡ u → Follows a b (λ old new. new ≡ old) → Follows a b (ServesClosed lane sole fits i j u v closed closed)
+  serves_rested a b i j u v closed legal same last rest = transcribes_rest None lane sole fits a a b i i j u u v _ (AreClosed closed closed) same last (serves_none a i u closed legal) rest
+
+  -- one connection
+  serves_one : (a b : List Entry → Type 0) (i j : ℕ) (m n : Option Refusal) (before now : Option (List Connection)) (end : SessionEnd) (t u : Option Told) (w v : Option (List ℕ))
+      → IsUnread t → IsUnwritten w → Closes before now u v → Session end CONNECTION_BYTES t u w v None lane sole fits i j m n a b → Follows a b (ServesClosed lane sole fits i j m n before now)
+  serves_one a b i j m n before now end t u w v unread unwritten closes s = follows_weaker a b _ _ told s.replies
+    where
+      told : (old new : List Entry) → InTurn end (served s.front false) (served s.bytes s.ended) w v None lane sole fits i j m n old new → ServesClosed lane sole fits i j m n before now old new
+      told old new turn =
+          let r = turn.replies in
+          let written = written_by end w v r.output r.said in
+          let connection : Connection = record { taken = s.bytes; ended = s.ended; written = written } in
+          let is : IsSession connection end r.transcript.pieces = record {
+            lines = r.lines;
+            taken = s.taken;
+            of_all = r.of_all;
+            asked = r.transcript.of_lines;
+            said = subst (SaidBy end (Some []) (Some written)) (sym r.transcript.of_output) (said_first end w v r.output r.said);
+          } in
+          record {
+            pieces = r.transcript.pieces;
+            asked = tt;
+            said = (connection ∷ [], closed_one before now t u w v s.bytes s.ended written unread unwritten s.took s.answered (wrote_by end w v r.output r.said) closes, (end, r.transcript.pieces, [], sym (append-nil r.transcript.pieces), is, refl));
+            grows = subst (λ E. Grows lane sole E old new) (sym r.transcript.of_entries) r.grows;
+            each = r.transcript.each;
+            rose = r.rose;
+            ends = r.ends;
+          }
+
+-- one connection more
+pub serves_more : (lane : ℕ) (sole : Bool) (fits less : List Entry → Type 0) (a b c : List Entry → Type 0) (i j k : ℕ) (l m n : Option Refusal) (before now later : Option (List Connection)) (end : SessionEnd) (t u : Option Told) (w v : Option (List ℕ))
+    → ((h : List Entry) → fits h → less h) → IsUnread t → IsUnwritten w → Closes now later u v
+    → Session end CONNECTION_BYTES t u w v None lane sole less j k m n b c → Follows a b (ServesClosed lane sole fits i j l m before now) → Follows a c (ServesClosed lane sole fits i k l n before later)
+serves_more lane sole fits less a b c i j k l m n before now later end t u w v fewer unread unwritten closes s first =
+    transcribes_then None lane sole fits a b c less i j k l m n _ _ _ (AreClosed before now) (AreClosed now later) (AreClosed before later) fewer (λ xs ys p q. tt)
+    (λ xs ys any p q. (p.0 ++ q.0, closed_then before now later p.0 q.0 p.1 q.1, sessions_then p.0 q.0 xs ys p.2 q.2))
+    first (serves_one lane sole less b c j k m n now later end t u w v unread unwritten closes s)

@@ -1,0 +1,12 @@
+//! A door over TCP, and the two ends of a connection. Input is read ahead in large pieces; replies are collected, and
+//! handed on when the buffer is full, before a client is asked for more, and when the output has ended.
+#![tactic(auto)]
+
+mod closing;
+mod door;
+mod ends;
+#[cfg(test)]
+mod tests;
+
+pub use door::TcpDoor;
+pub use ends::{TcpSink, TcpSource};
