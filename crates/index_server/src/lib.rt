@@ -2,9 +2,15 @@
 #![tactic(auto)]
 
 mod alone;
+mod both;
 mod connection;
 mod end;
+mod forks;
+mod server;
+mod shared_door;
+mod workers;
 
 pub use alone::serve_alone;
 pub use connection::CONNECTION_BYTES;
 pub use end::DoorEnd;
+pub use server::serve_door;

@@ -1,0 +1,13 @@
+-- When a server is refused for want of lanes.
+use Rattle.std.specs.Prelude.{◌≡◌, ◌≤◌, ◌<◌, ℕ}
+use Rattle.map_model.specs.declared.refusal.ForkFault.{ForkFault}
+use Rattle.map_model.specs.declared.refusal.ForkFault.TheVariants as faults
+use Rattle.index_server.specs.declared.end.DoorEnd.{DoorEnd}
+use Rattle.index_server.specs.declared.end.DoorEnd.TheVariants.{Done, DoorFault, Lanes}
+
+-- Want of lanes is told exactly where so many forks are more than there is room for, and with it how many lanes there may be; want of memory only where a fork is needed.
+abbrev pub TellsRoom : ℕ → ℕ → ℕ → DoorEnd → Type 0
+TellsRoom room forks most Done = forks ≤ room
+TellsRoom room forks most DoorFault = forks ≤ room
+TellsRoom room forks most (Lanes (faults.Lanes given cap)) = (room < forks) × (cap ≡ most)
+TellsRoom room forks most (Lanes faults.NoMemory) = 0 < forks
