@@ -13,8 +13,11 @@ pub(crate) fn replace_both<S, T, X, R, F: FnOnce(S, T, X) -> (S, T, R)>(
     requires { F.pre f first.old second.old given }
     ensures { F.post f first.old second.old given (first.new, second.new, result) }
 {
-    let (back, result) =
-        mem::replace_with(first, Lent { second, given, f }, |first, lent| lent.run(first));
+    let (back, result) = mem::replace_with(
+        first,
+        Lent { second, given, f },
+        |first, lent| lent.run(first),
+    );
     take_back(back);
     result
 }
@@ -55,5 +58,4 @@ impl<'a, T, X, F> Lent<'a, T, X, F> {
 // Ties a reference that comes back to the place that it was lent by.
 fn take_back<T>(place: &mut T)
     ensures { place.new ≡ place.old }
-{
-}
+{}

@@ -74,12 +74,7 @@ pub fn serve_door<R: Threads + Wait + Sync, T: Lanes, D: Door + Send>(
 }
 
 /// Serves a door by a worker for each lane, and ends the forks. Says whether the door failed.
-fn serve_shared<
-    B: Begun + Send + Sync,
-    R: Threads + Wait + Sync,
-    T: Lanes,
-    D: Door + Send,
->(
+fn serve_shared<B: Begun + Send + Sync, R: Threads + Wait + Sync, T: Lanes, D: Door + Send>(
     rt: &R,
     alloc: Global,
     door: &mut D,
@@ -101,12 +96,12 @@ fn serve_shared<
         lanes,
         |door, first, lanes| -> (D, T, bool)
             requires { (D.closings door ≡ B.closings) × (D.faults door ≡ B.faults)
-            × AllByRecursion (λ (t : T). T.origin t ≡ T.origin first) lanes.items }
+                × AllByRecursion (λ (t : T). T.origin t ≡ T.origin first) lanes.items }
             ensures { OnTrue result.2 (Rose B.faults (D.faults result.0))
-            × OnFalse result.2 ((0 < sessions) × RoseBy sessions B.closings (D.closings result.0)
-            × (D.closings result.0 ≤ B.closings + sessions))
-            × IsPrefix (T.seen first) (T.seen result.1)
-            × (T.lane result.1 ≡ T.lane first) × (T.origin result.1 ≡ T.origin first) }
+                × OnFalse result.2 ((0 < sessions) × RoseBy sessions B.closings (D.closings result.0)
+                × (D.closings result.0 ≤ B.closings + sessions))
+                × IsPrefix (T.seen first) (T.seen result.1)
+                × (T.lane result.1 ≡ T.lane first) × (T.origin result.1 ≡ T.origin first) }
         { share::<B, R, T, D>(rt, alloc, door, first, lanes, sessions) },
     )
 }

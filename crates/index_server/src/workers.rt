@@ -39,12 +39,7 @@ fn work<B: Begun, R: Wait + Sync, T: Ordered, D: Door>(
 }
 
 /// Lets the forked lanes work, and asks for a thread for each but one.
-fn work_forks<
-    B: Begun + Send + Sync,
-    R: Threads + Wait + Sync,
-    T: Lanes,
-    D: Door + Send,
->(
+fn work_forks<B: Begun + Send + Sync, R: Threads + Wait + Sync, T: Lanes, D: Door + Send>(
     rt: &R,
     alloc: Global,
     door: &Mutex<SharedDoor<D, B>>,
@@ -56,12 +51,7 @@ fn work_forks<
     lanes
 }
 
-fn work_each<
-    B: Begun + Send + Sync,
-    R: Threads + Wait + Sync,
-    T: Lanes,
-    D: Door + Send,
->(
+fn work_each<B: Begun + Send + Sync, R: Threads + Wait + Sync, T: Lanes, D: Door + Send>(
     rt: &R,
     alloc: Global,
     door: &Mutex<SharedDoor<D, B>>,
@@ -79,12 +69,7 @@ fn work_each<
 }
 
 /// Lets the first lane work.
-fn work_first<
-    B: Begun + Send + Sync,
-    R: Threads + Wait + Sync,
-    T: Lanes,
-    D: Door + Send,
->(
+fn work_first<B: Begun + Send + Sync, R: Threads + Wait + Sync, T: Lanes, D: Door + Send>(
     rt: &R,
     alloc: Global,
     door: &Mutex<SharedDoor<D, B>>,
@@ -98,12 +83,7 @@ fn work_first<
 }
 
 /// Lets the first lane and its forks work at the same time.
-pub(crate) fn work_all<
-    B: Begun + Send + Sync,
-    R: Threads + Wait + Sync,
-    T: Lanes,
-    D: Door + Send,
->(
+pub(crate) fn work_all<B: Begun + Send + Sync, R: Threads + Wait + Sync, T: Lanes, D: Door + Send>(
     rt: &R,
     alloc: Global,
     door: &Mutex<SharedDoor<D, B>>,
