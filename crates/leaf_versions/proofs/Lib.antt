@@ -1,1 +1,2 @@
-mod Between
+pub mod Between
+mod OneLeaf

@@ -1,10 +1,10 @@
 //! The calls on one leaf. A leaf's word is its date times 256, and its holder's lane + 1, or 0 where
 //! no lane holds it.
 
-ghost use Rattle.std.specs.Prelude.{◌≡◌, ℕ, ◌+◌, ◌*◌, ◌%◌, ◌^◌, ◌<◌, ◌≤◌, ◌↔◌, true, Some, None, IsSome, IsNone, IfSome, IsOk, IfOk, IfErr, slice_index};
+ghost use Rattle.std.specs.Prelude.{◌≡◌, ℕ, ◌+◌, ◌*◌, ◌/◌, ◌%◌, ◌^◌, ◌<◌, ◌≤◌, ◌↔◌, true, Some, None, IsSome, IsNone, IfSome, IsOk, IfOk, IfErr};
 ghost use Rattle.anchor_rules.specs.Anchors.{Anchors};
 ghost use Rattle.board_rule.specs.Rule.{leaf_word};
-ghost use Rattle.board_rule.specs.Views.{VERSION, held_at, has, looked, raised};
+ghost use Rattle.board_rule.specs.Views.{held_at, has, looked, raised};
 ghost use Rattle.board_rule.specs.Steps.{Grew, Gives, Fresh, Ends, current};
 ghost use Rattle.board_rule.specs.Passes.{lane_of, view, IsOf};
 ghost use Rattle.leaf_versions.specs.Holding.{IsHeld, Took};
@@ -55,12 +55,12 @@ pub fn lock<L: Ledger>(
     ensures ok { IfOk result (λ held. Took board.now.shape leaf seen searched (lane_of pass.old.lane) (view pass.old) (view pass.new) held) }
     ensures refused { IfErr result (λ again. IsRefused board.now.shape leaf seen searched (view pass.old) (view pass.new) again) }
 
-    // A pass that doesn't hold the leaf, and whose view bears the look out, isn't refused for a holder
-    // of its own lane, nor as stale where it has the turn and searched the version; and a sole pass
-    // that searched the version isn't refused.
+    // Where the pass doesn't hold the leaf and its view still bears the look out, no refusal names the
+    // pass's own lane, none is `Stale` where the pass has the turn and searched the version, and a sole
+    // pass is refused only as `Stale`.
     ensures other { held_at (view pass.old) leaf ≡ None → StillSeen board.now.shape leaf (view pass.old) seen → IfErr result (λ again. NamesOther (lane_of pass.old.lane) again) }
     ensures dated { held_at (view pass.old) leaf ≡ None → StillSeen board.now.shape leaf (view pass.old) seen → (n : ℕ) (A : Anchors) → (view pass.old).current ≡ Some (n, A) → n ≤ searched → IfErr result (λ again. NotStale again) }
-    ensures sole { held_at (view pass.old) leaf ≡ None → StillSeen board.now.shape leaf (view pass.old) seen → (view pass.old).sole ≡ true → slice_index (view pass.old).words VERSION ≤ searched → IsOk result }
+    ensures sole { held_at (view pass.old) leaf ≡ None → StillSeen board.now.shape leaf (view pass.old) seen → (view pass.old).sole ≡ true → seen / 256 ≤ searched → IsOk result }
 {
     steps.tick();
     if let Some(holder) = holder(seen) {
