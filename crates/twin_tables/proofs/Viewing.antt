@@ -1,5 +1,5 @@
 -- What steps leave of a view.
-use Rattle.std.proofs.Common.{◌≡◌, ◌≢◌, ℕ, ◌+◌, ◌%◌, ◌<◌, List, [], ◌∷◌, ◌++◌, length, get_or, set, refl, sym, ap, ◌∙◌, subst, arith, append_assoc, append-nil, get_or-set_other, Option, Some, None, cond, true, false, eqb, eq-eqb, ◌-◌}
+use Rattle.std.proofs.Common.{◌≡◌, ◌≢◌, ℕ, ◌+◌, ◌%◌, ◌<◌, ◌≤◌, List, [], ◌∷◌, ◌++◌, length, get_or, set, refl, sym, ap, ◌∙◌, subst, arith, append_assoc, append-nil, get_or-set_other, Option, Some, None, cond, true, false, eqb, eq-eqb, ◌-◌}
 use mathlib.Core.Logic.{dite}
 use mathlib.Core.Option.{some}
 use native.Mathlib.Decide.{ℕ_discrete}
@@ -10,11 +10,12 @@ use Rattle.anchor_rules.specs.Anchors.{Anchors}
 use Rattle.map_model.specs.declared.refusal.Again.TheVariants.{Moved}
 use Rattle.meta_trie.specs.Stands.{StandsFor}
 use Rattle.board_rule.specs.declared.view.View.{View}
+use Rattle.board_rule.specs.Notes.{Note, note_of}
 use Rattle.board_rule.specs.Pins.{Pin}
 use Rattle.board_rule.specs.Views.{VERSION, PINS, later, last_found, looked, noted, unchecked, checked, unpinned}
 use Rattle.board_rule.specs.Rule.{row_count}
 use Rattle.board_rule.specs.Passes.{lane_of}
-use Rattle.board_rule.specs.Steps.{Sat, Notes, Pinned, Checks, Unpinned, pin_of, Knew}
+use Rattle.board_rule.specs.Steps.{Sat, Notes, Pinned, Checks, Unpinned, pin_of, Knew, FindsVersion}
 use Rattle.board_rule.proofs.Growing.{grew_kept}
 use Rattle.twin_tables.specs.Views.{OnlyLooks, OnlyPin}
 use Rattle.twin_tables.specs.Pins.{pin_looks, Pins, PinMoved}
@@ -91,7 +92,7 @@ the_new_pin first = record { table = first % 2; version = first; checked = None 
 abbrev loaded_pinned : ℕ → ℕ → Anchors → View → View
 loaded_pinned first found A v = unchecked (first % 2) first found (noted first A v)
 
-module _ (k : Shape) (v v1 v2 : View) (first found : ℕ) (A : Anchors) (loads : v1 ≡ noted first A v) (pins : v2 ≡ unchecked (first % 2) first found v1) (known : (n : ℕ) (B : Anchors) → v.current ≡ Some (n, B) → first ≡ n) where
+module _ (k : Shape) (v v1 v2 : View) (first found : ℕ) (A : Anchors) (loads : v1 ≡ noted first A v) (pins : v2 ≡ unchecked (first % 2) first found v1) (known : (n : ℕ) (B : Anchors) → v.current ≡ Some (n, B) → first ≡ n) (knew : Knew VERSION v first) (old : (x : ℕ) (a : Note) → get_elem? v.notes x ≡ some a → a.version ≤ first) where
   after : v2 ≡ loaded_pinned first found A v
   after = pins ∙ ap (unchecked (first % 2) first found) loads
 
@@ -126,11 +127,13 @@ module _ (k : Shape) (v v1 v2 : View) (first found : ℕ) (A : Anchors) (loads :
     loaded = A;
     current = refl;
     known = known;
+    notes = two v.notes (note_of first A false) (note_of first B false);
+    knew = knew;
   })
 
   -- where it found another one, and the pin was taken back
-  pub pins_missed : (v3 w : View) (second left : ℕ) → second ≢ first → v3 ≡ looked VERSION second v2 → w ≡ unpinned (first % 2) left v3 → PinMoved (Moved first second) v w
-  pins_missed v3 w second left ne look back = subst (PinMoved (Moved first second) v) (sym (back ∙ ap (unpinned (first % 2) left) (look ∙ ap (looked VERSION second) after))) (record {
+  pub pins_missed : (v3 w : View) (second left : ℕ) → second ≢ first → FindsVersion v2 second → v3 ≡ looked VERSION second v2 → w ≡ unpinned (first % 2) left v3 → PinMoved (Moved first second) v w
+  pins_missed v3 w second left ne finds look back = subst (PinMoved (Moved first second) v) (sym (back ∙ ap (unpinned (first % 2) left) (look ∙ ap (looked VERSION second) after))) (record {
     only = record {
       same = record {
         grew = grew_kept v (unpinned (first % 2) left (looked VERSION second (loaded_pinned first found A v))) refl refl refl (pin_looks first found second ++ (PINS + first % 2, left) ∷ [], sym (four v.looks (VERSION, first) (PINS + first % 2, found) (VERSION, second) (PINS + first % 2, left))) (_, refl) (omega arith) (λ s. s);
@@ -158,11 +161,16 @@ module _ (k : Shape) (v v1 v2 : View) (first found : ℕ) (A : Anchors) (loads :
     loaded = A;
     current = refl;
     known = known;
+    notes = refl;
+    newer =
+        let le = finds.noted (length v.notes) (note_of first A false) (ap (λ (u : View). get_elem? u.notes (length v.notes)) after ∙ at_end v.notes (note_of first A false)) in
+        dite (ℕ_discrete second first) (λ e. absurd (ne e)) (λ other. omega (arith, le, other));
+    noted = old;
   })
 
   -- which can't be where the view is sole
-  pub sole_hit : (second : ℕ) → v.sole ≡ true → Knew VERSION v first → Knew VERSION v2 second → second ≡ first
-  sole_hit second sole knew again =
+  pub sole_hit : (second : ℕ) → v.sole ≡ true → Knew VERSION v2 second → second ≡ first
+  sole_hit second sole again =
       let at : get_or v2.words VERSION 0 ≡ get_or v.words VERSION 0 = ap (λ (u : View). get_or u.words VERSION 0) after ∙ other_words v.words (first % 2) (found + 1) VERSION (omega arith) (λ e. absurd (omega (arith, e))) (λ e. absurd (omega (arith, e))) in
       again (ap (λ (u : View). u.sole) after ∙ sole) ∙ at ∙ sym (knew sole)
 
@@ -182,17 +190,17 @@ module _ (k : Shape) (m m1 m2 m3 : Sat) (version second : ℕ) (loads : Notes m 
   pub pin_hit : second ≡ version → row_count k ≡ word_count k → Pins k version m.0 m3.0
   pin_hit same long =
       let hit = checks.hit (same ∙ sym (ap (λ (u : View). (pin_of u).version) pinned)) in
-      pins_hit k m.0 m1.0 m2.0 version pins.0 loads.anchors loaded pinned loads.finds.current m3.0 checks.anchors checks.rows (ap (λ (x : Sat). x.0) hit.0 ∙ ap (λ (x : ℕ). checked (pin_of m2.0) checks.anchors checks.rows x m2.0) same) hit.1 (hit.2 ∙ long)
+      pins_hit k m.0 m1.0 m2.0 version pins.0 loads.anchors loaded pinned loads.finds.current loads.knew loads.finds.noted m3.0 checks.anchors checks.rows (ap (λ (x : Sat). x.0) hit.0 ∙ ap (λ (x : ℕ). checked (pin_of m2.0) checks.anchors checks.rows x m2.0) same) hit.1 (hit.2 ∙ long)
 
   -- and else it was moved
   pub pin_missed : (second ≡ version → ⊥) → (m4 : Sat) → (found : ℕ) × Unpinned (version % 2) m3 found m4 → PinMoved (Moved version second) m.0 m4.0
   pin_missed other m4 back =
       let miss = checks.miss (λ same. other (same ∙ ap (λ (u : View). (pin_of u).version) pinned)) in
-      pins_missed k m.0 m1.0 m2.0 version pins.0 loads.anchors loaded pinned loads.finds.current m3.0 m4.0 second back.0 other (ap (λ (x : Sat). x.0) miss) (ap (λ (x : Sat). x.0) back.1.0)
+      pins_missed k m.0 m1.0 m2.0 version pins.0 loads.anchors loaded pinned loads.finds.current loads.knew loads.finds.noted m3.0 m4.0 second back.0 other checks.finds (ap (λ (x : Sat). x.0) miss) (ap (λ (x : Sat). x.0) back.1.0)
 
   -- which a sole view doesn't see
   pub pin_sole : m.0.sole ≡ true → second ≡ version
-  pin_sole sole = sole_hit k m.0 m1.0 m2.0 version pins.0 loads.anchors loaded pinned loads.finds.current second sole loads.knew checks.knew
+  pin_sole sole = sole_hit k m.0 m1.0 m2.0 version pins.0 loads.anchors loaded pinned loads.finds.current loads.knew loads.finds.noted second sole checks.knew
 
 pub pin_looked : (m m1 : Sat) (version : ℕ) → Notes m version m1 → last_found VERSION m1.0.looks ≡ Some version
 pin_looked m m1 version loads = last_loaded m.0 m1.0 version loads.anchors (ap (λ (x : Sat). x.0) loads.after)

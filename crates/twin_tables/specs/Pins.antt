@@ -1,5 +1,7 @@
 -- What a pin tells, and why one is refused.
-use Rattle.std.specs.Prelude.{◌≡◌, ◌≢◌, ℕ, ◌+◌, ◌%◌, List, [], ◌∷◌, ◌++◌, length, cond, Some, None}
+use Rattle.std.specs.Prelude.{◌≡◌, ◌≢◌, ℕ, ◌+◌, ◌%◌, ◌<◌, ◌≤◌, List, [], ◌∷◌, ◌++◌, length, false, cond, Some, None}
+use mathlib.Core.Option.{some}
+use lib.ListN.{get_elem?}
 use Rattle.row_words.specs.declared.shape.Shape.{Shape}
 use Rattle.row_words.specs.Layout.{word_count}
 use Rattle.anchor_rules.specs.Anchors.{Anchors, AreAnchors}
@@ -8,7 +10,8 @@ use Rattle.map_model.specs.declared.refusal.Again.TheVariants.{Moved}
 use Rattle.meta_trie.specs.Stands.{StandsFor}
 use Rattle.board_rule.specs.declared.view.View.{View}
 use Rattle.board_rule.specs.Views.{VERSION, PINS}
-use Rattle.board_rule.specs.Steps.{HasChecked, HasNote, pin_of, pinned_anchors, pinned_rows}
+use Rattle.board_rule.specs.Notes.{Note, note_of}
+use Rattle.board_rule.specs.Steps.{Knew, HasChecked, HasNote, pin_of, pinned_anchors, pinned_rows}
 use Rattle.twin_tables.specs.Views.{OnlyPin}
 
 -- the version is looked at, the pins of its table, and the version again
@@ -31,6 +34,9 @@ pub record Pins (k : Shape) (version : ℕ) (v w : View) : Type 0 where
   pub loaded : Anchors
   pub current : w.current ≡ cond v.turn (Some (version, loaded)) None
   pub known : (n : ℕ) (A : Anchors) → v.current ≡ Some (n, A) → version ≡ n
+  -- it was noted by both looks
+  pub notes : w.notes ≡ v.notes ++ note_of version loaded false ∷ note_of version (pinned_anchors w) false ∷ []
+  pub knew : Knew VERSION v version
 
 -- The two looks at the version differ, and the pin is taken back.
 pub record PinMoved (again : Again) (v w : View) : Type 0 where
@@ -46,3 +52,7 @@ pub record PinMoved (again : Again) (v w : View) : Type 0 where
   pub loaded : Anchors
   pub current : w.current ≡ cond v.turn (Some (first, loaded)) None
   pub known : (n : ℕ) (A : Anchors) → v.current ≡ Some (n, A) → first ≡ n
+  pub notes : w.notes ≡ v.notes ++ note_of first loaded false ∷ []
+  -- the second is newer than all that was noted before
+  pub newer : first < second
+  pub noted : (x : ℕ) (a : Note) → get_elem? v.notes x ≡ some a → a.version ≤ first

@@ -1,0 +1,5 @@
+pub mod Idle
+pub mod Lanes
+pub mod Looks
+pub mod Calls
+pub mod Causes
