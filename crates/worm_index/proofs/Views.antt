@@ -1,5 +1,5 @@
 -- From the views between the steps of a call on lanes to what the call tells.
-use Rattle.std.proofs.Common.{◌≡◌, ℕ, zero, suc, ◌≤◌, List, [], ◌∷◌, ◌++◌, length, Bool, true, false, cond, Option, None, ◌⊎◌, inl, inr, ⊎_elim, sym, refl, ap, ◌∙◌, subst, arith, slice_index_or}
+use Rattle.std.proofs.Common.{◌≡◌, ℕ, zero, suc, ◌≤◌, List, [], ◌∷◌, length, Bool, true, false, cond, Option, None, ◌⊎◌, inl, inr, ⊎_elim, sym, refl, ap, ◌∙◌, subst, arith, slice_index_or}
 use Rattle.std.proofs.lemmas.List.{length-append}
 use mathlib.Core.List.{IsPrefix}
 use Rattle.map_model.specs.History.{Entry}
@@ -38,9 +38,9 @@ have_met v u w other x pass w-is other-is x-is pass-is mine begins theirs goes-o
     let first : w.seen ≡ longer v.seen u.seen = ap (λ (z : View). z.seen) w-is in
     let second : x.seen ≡ longer u.seen w.seen = ap (λ (z : View). z.seen) x-is ∙ ap (λ l. longer l w.seen) (ap (λ (z : View). z.seen) other-is) in
     let same : w.seen ≡ x.seen = ⊎_elim
-        (λ e. begins_whole x.seen w.seen goes-on (let s = shorter u.seen w.seen begins in let n = ap length (second ∙ e) in omega arith))
-        (λ e. sym (second ∙ e))
-        (longer_is u.seen w.seen) in
+    (λ e. begins_whole x.seen w.seen goes-on (let s = shorter u.seen w.seen begins in let n = ap length (second ∙ e) in omega arith))
+    (λ e. sym (second ∙ e))
+    (longer_is u.seen w.seen) in
     record {
       same = seen ∙ same;
       one = ⊎_elim (λ e. inl (seen ∙ (first ∙ e))) (λ e. inr (seen ∙ (first ∙ e))) (longer_is v.seen u.seen);
