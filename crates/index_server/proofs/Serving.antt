@@ -1,8 +1,7 @@
 -- How the sessions of one connection after another add up.
-use Rattle.std.proofs.Common.{◌≡◌, ℕ, List, [], ◌∷◌, ◌++◌, map, Bool, false, ◌||◌, refl, sym, ap, subst, ◌∙◌, append_assoc, Option, Some, None, Result, Ok, Err}
+use Rattle.std.proofs.Common.{◌≡◌, ℕ, List, [], ◌∷◌, ◌++◌, Bool, false, ◌||◌, refl, sym, ap, subst, ◌∙◌, append_assoc, Option, Some, None, Result, Ok, Err}
 use Rattle.std.proofs.Math.Seq.{take-nil}
 use Rattle.std.proofs.lemmas.List.{append-nil}
-use Rattle.line_protocol.specs.Requests.{Asked}
 use Rattle.line_protocol.specs.Served.{served}
 use Rattle.map_model.specs.History.{Entry, IsLegal}
 use Rattle.map_model.specs.Ordered.{Follows, Grows}
@@ -14,7 +13,7 @@ use Rattle.outside.specs.Reading.{Told, Took, Ended}
 use Rattle.outside.specs.Writing.{Wrote}
 use Rattle.outside.specs.declared.stop.Stop.{Stop}
 use Rattle.session.specs.Sessions.{Session, InTurn, SaidBy}
-use Rattle.session.specs.Transcripts.{Exchange, Transcribes, text_of}
+use Rattle.session.specs.Transcripts.{Exchange}
 use Rattle.session.specs.declared.session.SessionEnd.{SessionEnd}
 use Rattle.session.specs.declared.session.SessionEnd.TheVariants as ends
 use Rattle.session.proofs.Joining.{transcribes_none, transcribes_then, transcribes_rest}

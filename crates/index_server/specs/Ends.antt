@@ -1,6 +1,5 @@
--- When a server is refused for want of lanes.
-use Rattle.std.specs.Prelude.{◌≡◌, ◌≤◌, ◌<◌, ℕ}
-use Rattle.map_model.specs.declared.refusal.ForkFault.{ForkFault}
+-- When a server is refused for want of lanes, and what room it leaves.
+use Rattle.std.specs.Prelude.{◌≡◌, ◌≤◌, ◌<◌, ◌+◌, ℕ}
 use Rattle.map_model.specs.declared.refusal.ForkFault.TheVariants as faults
 use Rattle.index_server.specs.declared.end.DoorEnd.{DoorEnd}
 use Rattle.index_server.specs.declared.end.DoorEnd.TheVariants.{Done, DoorFault, Lanes}
@@ -11,3 +10,10 @@ TellsRoom room forks most Done = forks ≤ room
 TellsRoom room forks most DoorFault = forks ≤ room
 TellsRoom room forks most (Lanes (faults.Lanes given cap)) = (room < forks) × (cap ≡ most)
 TellsRoom room forks most (Lanes faults.NoMemory) = 0 < forks
+
+-- Forks take of the room for good: as many as there were, up to all of it where lanes were wanting.
+abbrev pub LeavesRoom : ℕ → ℕ → ℕ → DoorEnd → Type 0
+LeavesRoom before forks now Done = before ≡ now + forks
+LeavesRoom before forks now DoorFault = before ≡ now + forks
+LeavesRoom before forks now (Lanes (faults.Lanes given cap)) = now ≡ 0
+LeavesRoom before forks now (Lanes faults.NoMemory) = (now ≤ before) × (before ≤ now + forks)

@@ -38,6 +38,7 @@ pub fn serve_alone<R: Wait + Sync, T: Ordered, D: Door>(
     ensures never { (fault : ForkFault) → result ≢ DoorEnd.Lanes fault }
     ensures kept { (T.lane store.new ≡ T.lane store.old) × (T.sole store.new ≡ T.sole store.old)
         × (T.origin store.new ≡ T.origin store.old) }
+    ensures forks { T.room store.new ≡ T.room store.old }
     ensures fits { (history : List Entry) → T.fits store.old history → T.fits store.new history }
 {
     let mut closed = 0u64;

@@ -30,6 +30,7 @@ pub(crate) fn serve_connection<R: Wait + Sync, T: Ordered, S: Source, K: Sink>(
         (T.stands store.old) (T.stands store.new) }
     ensures kept { (T.lane store.new ≡ T.lane store.old) × (T.sole store.new ≡ T.sole store.old)
         × (T.origin store.new ≡ T.origin store.old) }
+    ensures forks { T.room store.new ≡ T.room store.old }
     ensures fits { (history : List Entry) → T.fits store.old history → T.fits store.new history }
 {
     let mut patience = Endless::new(rt);

@@ -1,8 +1,8 @@
 //! Lanes for workers, which are forked and ended again.
-ghost use Rattle.std.specs.Prelude.{◌≡◌, ◌<◌, ◌≤◌, IfOk, IfErr};
+ghost use Rattle.std.specs.Prelude.{◌≡◌, ◌<◌, ◌≤◌, ◌+◌, IfOk, IfErr};
 ghost use Rattle.std.specs.List.{AllByRecursion};
 ghost use mathlib.Core.List.{IsPrefix};
-ghost use Rattle.index_server.specs.Ends.{TellsRoom};
+ghost use Rattle.index_server.specs.Ends.{TellsRoom, LeavesRoom};
 
 use crate::end::DoorEnd;
 use map_model::{ForkFault, Lanes};
@@ -15,9 +15,10 @@ pub(crate) fn fork_lanes<T: Lanes>(
     count: usize,
 ) -> Result<Vec<T>, ForkFault>
     requires { 0 < count }
-    ensures of { IfOk result (λ lanes. AllByRecursion (λ (t : T). T.origin t ≡ T.origin first.old) lanes.items) }
-    ensures room { IfOk result (λ lanes. count ≤ T.room first.old) }
+    ensures of { IfOk result (λ lanes. AllByRecursion (λ (t : T). (T.origin t ≡ T.origin first.old) × (T.room t ≡ 0)) lanes.items) }
+    ensures room { IfOk result (λ lanes. T.room first.old ≡ T.room first.new + count) }
     ensures refused { IfErr result (λ fault. TellsRoom (T.room first.old) count (T.lanes first.old) (DoorEnd.Lanes fault)) }
+    ensures left { IfErr result (λ fault. LeavesRoom (T.room first.old) count (T.room first.new) (DoorEnd.Lanes fault)) }
     ensures kept { (T.seen first.new ≡ T.seen first.old) × (T.lane first.new ≡ T.lane first.old)
         × (T.origin first.new ≡ T.origin first.old) }
 {
@@ -37,10 +38,11 @@ pub(crate) fn fork_lanes<T: Lanes>(
     Ok(lanes)
 }
 
-/// Ends lanes of one index, from the last one to the first.
+/// Ends forks of the first lane, from the last one to the first.
 pub(crate) fn end_lanes<T: Lanes>(first: &mut T, mut lanes: Vec<T>)
-    requires { AllByRecursion (λ (t : T). T.origin t ≡ T.origin first.old) lanes.items }
+    requires { AllByRecursion (λ (t : T). (T.origin t ≡ T.origin first.old) × (T.room t ≡ 0)) lanes.items }
     ensures begins { IsPrefix (T.seen first.old) (T.seen first.new) }
+    ensures room { T.room first.new ≡ T.room first.old }
     ensures same { AllByRecursion (λ (t : T). T.seen t ≡ T.seen first.old) lanes.items → T.seen first.new ≡ T.seen first.old }
     ensures kept { (T.lane first.new ≡ T.lane first.old) × (T.sole first.new ≡ T.sole first.old)
         × (T.origin first.new ≡ T.origin first.old) }

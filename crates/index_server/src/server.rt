@@ -6,7 +6,7 @@ ghost use mathlib.Core.List.{IsPrefix};
 ghost use Rattle.counts.specs.Counts.{Rose, RoseBy};
 ghost use Rattle.map_model.specs.declared.refusal.ForkFault.{ForkFault};
 ghost use Rattle.index_server.specs.Connections.{ServesClosed};
-ghost use Rattle.index_server.specs.Ends.{TellsRoom};
+ghost use Rattle.index_server.specs.Ends.{TellsRoom, LeavesRoom};
 
 use crate::alone::serve_alone;
 use crate::both::replace_both;
@@ -33,7 +33,7 @@ use std::thread::Threads;
 /// started, its work is done on the caller's.
 ///
 /// Refused are more workers than `first` has room for, and any for which there is no memory. Then no connection was
-/// accepted, and the forks that were made are ended too.
+/// accepted, and the forks that were made are ended too. The room that a fork took doesn't come back with its end.
 pub fn serve_door<R: Threads + Wait + Sync, T: Lanes, D: Door + Send>(
     rt: &R,
     alloc: Global,
@@ -54,6 +54,7 @@ pub fn serve_door<R: Threads + Wait + Sync, T: Lanes, D: Door + Send>(
         × (D.closings door.new ≤ D.closings door.old + sessions) }
     ensures fault { result ≡ DoorEnd.DoorFault → Rose (D.faults door.old) (D.faults door.new) }
     ensures room { TellsRoom (T.room first.old) (workers - 1) (T.lanes first.old) result }
+    ensures left { LeavesRoom (T.room first.old) (workers - 1) (T.room first.new) result }
     ensures refused { (fault : ForkFault) → result ≡ DoorEnd.Lanes fault
         → (door.new ≡ door.old) × (T.seen first.new ≡ T.seen first.old) }
     ensures kept { (T.lane first.new ≡ T.lane first.old) × (T.origin first.new ≡ T.origin first.old) }
@@ -83,12 +84,13 @@ fn serve_shared<B: Begun + Send + Sync, R: Threads + Wait + Sync, T: Lanes, D: D
     sessions: u64,
 ) -> bool
     requires begun { (D.closings door.old ≡ B.closings) × (D.faults door.old ≡ B.faults) }
-    requires of { AllByRecursion (λ (t : T). T.origin t ≡ T.origin first.old) lanes.items }
+    requires of { AllByRecursion (λ (t : T). (T.origin t ≡ T.origin first.old) × (T.room t ≡ 0)) lanes.items }
     ensures fault { OnTrue result (Rose B.faults (D.faults door.new)) }
     ensures done { OnFalse result ((0 < sessions) × RoseBy sessions B.closings (D.closings door.new)
         × (D.closings door.new ≤ B.closings + sessions)) }
     ensures begins { IsPrefix (T.seen first.old) (T.seen first.new) }
-    ensures kept { (T.lane first.new ≡ T.lane first.old) × (T.origin first.new ≡ T.origin first.old) }
+    ensures kept { (T.lane first.new ≡ T.lane first.old) × (T.origin first.new ≡ T.origin first.old)
+        × (T.room first.new ≡ T.room first.old) }
 {
     replace_both(
         door,
@@ -96,12 +98,13 @@ fn serve_shared<B: Begun + Send + Sync, R: Threads + Wait + Sync, T: Lanes, D: D
         lanes,
         |door, first, lanes| -> (D, T, bool)
             requires { (D.closings door ≡ B.closings) × (D.faults door ≡ B.faults)
-                × AllByRecursion (λ (t : T). T.origin t ≡ T.origin first) lanes.items }
+                × AllByRecursion (λ (t : T). (T.origin t ≡ T.origin first) × (T.room t ≡ 0)) lanes.items }
             ensures { OnTrue result.2 (Rose B.faults (D.faults result.0))
                 × OnFalse result.2 ((0 < sessions) × RoseBy sessions B.closings (D.closings result.0)
                 × (D.closings result.0 ≤ B.closings + sessions))
                 × IsPrefix (T.seen first) (T.seen result.1)
-                × (T.lane result.1 ≡ T.lane first) × (T.origin result.1 ≡ T.origin first) }
+                × (T.lane result.1 ≡ T.lane first) × (T.origin result.1 ≡ T.origin first)
+                × (T.room result.1 ≡ T.room first) }
         { share::<B, R, T, D>(rt, alloc, door, first, lanes, sessions) },
     )
 }
@@ -116,12 +119,13 @@ fn share<B: Begun + Send + Sync, R: Threads + Wait + Sync, T: Lanes, D: Door + S
     sessions: u64,
 ) -> (D, T, bool)
     requires begun { (D.closings door ≡ B.closings) × (D.faults door ≡ B.faults) }
-    requires of { AllByRecursion (λ (t : T). T.origin t ≡ T.origin first) lanes.items }
+    requires of { AllByRecursion (λ (t : T). (T.origin t ≡ T.origin first) × (T.room t ≡ 0)) lanes.items }
     ensures fault { OnTrue result.2 (Rose B.faults (D.faults result.0)) }
     ensures done { OnFalse result.2 ((0 < sessions) × RoseBy sessions B.closings (D.closings result.0)
         × (D.closings result.0 ≤ B.closings + sessions)) }
     ensures begins { IsPrefix (T.seen first) (T.seen result.1) }
-    ensures kept { (T.lane result.1 ≡ T.lane first) × (T.origin result.1 ≡ T.origin first) }
+    ensures kept { (T.lane result.1 ≡ T.lane first) × (T.origin result.1 ≡ T.origin first)
+        × (T.room result.1 ≡ T.room first) }
 {
     let shared = Mutex::new(SharedDoor::<D, B>::new(door, sessions));
     let (lanes, mut first) = work_all(rt, alloc, &shared, first, lanes);

@@ -21,7 +21,8 @@ fn work<B: Begun, R: Wait + Sync, T: Ordered, D: Door>(
     store: &mut T,
 )
     ensures seen { Follows (T.stands store.old) (T.stands store.new) IsPrefix }
-    ensures kept { (T.lane store.new ≡ T.lane store.old) × (T.origin store.new ≡ T.origin store.old) }
+    ensures kept { (T.lane store.new ≡ T.lane store.old) × (T.origin store.new ≡ T.origin store.old)
+        × (T.room store.new ≡ T.room store.old) }
 {
     // Each session leaves the store at rest.
     store.rest();
@@ -45,7 +46,8 @@ fn work_forks<B: Begun + Send + Sync, R: Threads + Wait + Sync, T: Lanes, D: Doo
     door: &Mutex<SharedDoor<D, B>>,
     mut lanes: Vec<T>,
 ) -> Vec<T>
-    ensures { map (λ (t : T). T.origin t) result.items ≡ map (λ (t : T). T.origin t) lanes.items }
+    ensures origins { map (λ (t : T). T.origin t) result.items ≡ map (λ (t : T). T.origin t) lanes.items }
+    ensures rooms { map (λ (t : T). T.room t) result.items ≡ map (λ (t : T). T.room t) lanes.items }
 {
     work_each(rt, alloc, door, lanes.as_mut_slice());
     lanes
@@ -57,12 +59,13 @@ fn work_each<B: Begun + Send + Sync, R: Threads + Wait + Sync, T: Lanes, D: Door
     door: &Mutex<SharedDoor<D, B>>,
     lanes: &mut [T],
 )
-    ensures { map (λ (t : T). T.origin t) lanes.new ≡ map (λ (t : T). T.origin t) lanes.old }
+    ensures origins { map (λ (t : T). T.origin t) lanes.new ≡ map (λ (t : T). T.origin t) lanes.old }
+    ensures rooms { map (λ (t : T). T.room t) lanes.new ≡ map (λ (t : T). T.room t) lanes.old }
 {
     let count = lanes.len();
     if count > 0 {
         let serve = |_: usize, lane: &mut T|
-            ensures { T.origin lane.exit.now ≡ T.origin lane.entry.now }
+            ensures { (T.origin lane.exit.now ≡ T.origin lane.entry.now) × (T.room lane.exit.now ≡ T.room lane.entry.now) }
         { work(rt, alloc, door, lane) };
         thread::for_each_mut(rt, lanes, count, &serve);
     }
@@ -76,7 +79,8 @@ fn work_first<B: Begun + Send + Sync, R: Threads + Wait + Sync, T: Lanes, D: Doo
     mut first: T,
 ) -> T
     ensures begins { IsPrefix (T.seen first) (T.seen result) }
-    ensures kept { (T.lane result ≡ T.lane first) × (T.origin result ≡ T.origin first) }
+    ensures kept { (T.lane result ≡ T.lane first) × (T.origin result ≡ T.origin first)
+        × (T.room result ≡ T.room first) }
 {
     work(rt, alloc, door, &mut first);
     first
@@ -90,9 +94,11 @@ pub(crate) fn work_all<B: Begun + Send + Sync, R: Threads + Wait + Sync, T: Lane
     first: T,
     lanes: Vec<T>,
 ) -> (Vec<T>, T)
-    ensures forks { map (λ (t : T). T.origin t) result.0.items ≡ map (λ (t : T). T.origin t) lanes.items }
+    ensures origins { map (λ (t : T). T.origin t) result.0.items ≡ map (λ (t : T). T.origin t) lanes.items }
+    ensures rooms { map (λ (t : T). T.room t) result.0.items ≡ map (λ (t : T). T.room t) lanes.items }
     ensures begins { IsPrefix (T.seen first) (T.seen result.1) }
-    ensures kept { (T.lane result.1 ≡ T.lane first) × (T.origin result.1 ≡ T.origin first) }
+    ensures kept { (T.lane result.1 ≡ T.lane first) × (T.origin result.1 ≡ T.origin first)
+        × (T.room result.1 ≡ T.room first) }
 {
     join(
         rt,

@@ -1,6 +1,4 @@
-use Rattle.std.proofs.Common.{◌≡◌, ◌≤◌, refl, sym, ap, ◌∙◌, subst, arith, rules}
-use Rattle.map_model.specs.Ordered.{Follows}
-use Rattle.index_server.specs.Connections.{ServesClosed}
+use Rattle.std.proofs.Common.{◌≤◌, ◌∙◌, arith, rules}
 use Rattle.index_server.proofs.Serving.{serves_rested, serves_more}
 use Rattle.index_server.proofs.alone.serve_alone.Goals as goal
 
@@ -14,6 +12,7 @@ loop-init g c =
       lane = rest.kept.0;
       sole = rest.kept.1;
       origin = rest.kept.2;
+      forks = rest.forks;
       fits = rest.fits;
       closings = omega arith;
       most = omega arith;
@@ -32,6 +31,7 @@ loop-preserved g c =
       lane = now.lane;
       sole = now.sole;
       origin = now.origin;
+      forks = now.forks;
       fits = now.fits;
       closings = omega (arith, now.closings, c.accept.ensures.closings);
       most = omega (arith, now.most, c.accept.ensures.closings);
@@ -50,6 +50,7 @@ loop-preserved-in-Ok g c =
       lane = one.kept.0 ∙ now.lane;
       sole = one.kept.1 ∙ now.sole;
       origin = one.kept.2 ∙ now.origin;
+      forks = one.forks ∙ now.forks;
       fits = λ h fit. one.fits h (now.fits h fit);
       closings = omega (arith, now.closings, c.accept.ensures.closings, c.close.ensures.closings, c.raise-closed.ensures.value);
       most = omega (arith, now.most, c.accept.ensures.closings, c.close.ensures.closings, c.raise-closed.ensures.value);

@@ -14,6 +14,7 @@ invariant-loop g l = record {
   lane : g.T.Ordered.lane l.store ≡ g.T.Ordered.lane l.fn.store;
   sole : g.T.Ordered.sole l.store ≡ g.T.Ordered.sole l.fn.store;
   origin : g.T.Ordered.origin l.store ≡ g.T.Ordered.origin l.fn.store;
+  forks : g.T.Ordered.room l.store ≡ g.T.Ordered.room l.fn.store;
   fits : (history : List Entry) → g.T.Ordered.fits l.fn.store history → g.T.Ordered.fits l.store history;
   closings : RoseBy l.closed (g.D.Door.closings l.fn.door) (g.D.Door.closings l.door);
   most : g.D.Door.closings l.door ≤ g.D.Door.closings l.fn.door + l.closed;

@@ -1,4 +1,3 @@
-use Rattle.std.proofs.Common.{◌≡◌}
 use Rattle.index_server.proofs.Serving.{wrote_none}
 use Rattle.index_server.proofs.connection.serve_connection.Goals as goal
 

@@ -9,7 +9,8 @@ invariant-lanes g l = record {
   lane : g.T.Ordered.lane l.first ≡ g.T.Ordered.lane l.fn.first;
   sole : g.T.Ordered.sole l.first ≡ g.T.Ordered.sole l.fn.first;
   origin : g.T.Ordered.origin l.first ≡ g.T.Ordered.origin l.fn.first;
-  of : AllByRecursion (λ t. g.T.Ordered.origin t ≡ g.T.Ordered.origin l.fn.first) l.lanes.items;
+  of : AllByRecursion (λ t. (g.T.Ordered.origin t ≡ g.T.Ordered.origin l.fn.first) × (g.T.Ordered.room t ≡ 0)) l.lanes.items;
+  room : g.T.Ordered.room l.first ≡ g.T.Ordered.room l.fn.first;
   begins : IsPrefix (g.T.Lanes.seen l.fn.first) (g.T.Lanes.seen l.first);
   same : AllByRecursion (λ t. g.T.Lanes.seen t ≡ g.T.Lanes.seen l.fn.first) l.fn.lanes.items
       → (g.T.Lanes.seen l.first ≡ g.T.Lanes.seen l.fn.first) × AllByRecursion (λ t. g.T.Lanes.seen t ≡ g.T.Lanes.seen l.fn.first) l.lanes.items;

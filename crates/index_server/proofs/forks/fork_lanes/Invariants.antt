@@ -6,7 +6,7 @@ use Rattle.index_server.proofs.forks.fork_lanes.Given as goal
 -- each fork took one of the room, and has seen what its store has
 abbrev pub invariant-loop : goal.invariant-loop
 invariant-loop g l = record {
-  of : AllByRecursion (λ t. g.T.Ordered.origin t ≡ g.T.Ordered.origin l.fn.first) l.lanes.items;
+  of : AllByRecursion (λ t. (g.T.Ordered.origin t ≡ g.T.Ordered.origin l.fn.first) × (g.T.Ordered.room t ≡ 0)) l.lanes.items;
   have : AllByRecursion (λ t. g.T.Lanes.seen t ≡ g.T.Lanes.seen l.fn.first) l.lanes.items;
   less : g.T.Ordered.room l.fn.first ≡ g.T.Ordered.room l.first + l.counter;
   len : vec_len l.lanes ≡ l.counter;

@@ -1,7 +1,6 @@
 use Rattle.std.proofs.Common.{◌≡◌, subst, sym}
 use Rattle.std.specs.List.{AllByRecursion}
 use mathlib.Core.List.{IsPrefix}
-use Rattle.index_server.specs.Connections.{ServesClosed}
 use Rattle.index_server.proofs.server.serve_door.Goals as goal
 
 -- one worker: what the first lane had seen went on by the sessions
@@ -20,4 +19,4 @@ returns-then-workers-eq1-clause-begins g c =
 pub serve_shared-requires-clause-of : goal.serve_shared-requires-clause-of
 serve_shared-requires-clause-of g c κs within =
     let f = c.in-Ok.ensures in
-    subst (λ o. AllByRecursion (λ t. g.T.Ordered.origin t ≡ o) c.in-Ok.lanes.items) (sym f.kept.2) f.of
+    subst (λ o. AllByRecursion (λ t. (g.T.Ordered.origin t ≡ o) × (g.T.Ordered.room t ≡ 0)) c.in-Ok.lanes.items) (sym f.kept.2) f.of

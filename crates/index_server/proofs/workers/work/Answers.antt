@@ -1,4 +1,4 @@
-use Rattle.std.proofs.Common.{◌≡◌, subst, sym, ◌∙◌, rules}
+use Rattle.std.proofs.Common.{subst, sym, ◌∙◌, rules}
 use mathlib.Core.List.{IsPrefix}
 use Rattle.map_model.proofs.Growing.{follows_then, follows_weaker}
 use Rattle.map_model.proofs.Histories.{begins_itself, begins_trans}
@@ -13,6 +13,7 @@ loop-init g c =
       seen = follows_weaker _ _ _ _ (λ old new same. subst (λ h. IsPrefix old h) (sym same) (begins_itself old)) rest.seen;
       lane = rest.kept.0;
       origin = rest.kept.2;
+      room = rest.forks;
     }
 
 -- one connection more
@@ -26,4 +27,5 @@ loop-preserved-in-Serve g c =
       seen = follows_then _ _ _ _ _ _ (λ old mid new p turn. begins_trans old mid new p turn.replies.grows.begins) now.seen one.session.1.replies;
       lane = one.kept.0 ∙ now.lane;
       origin = one.kept.2 ∙ now.origin;
+      room = one.forks ∙ now.room;
     }

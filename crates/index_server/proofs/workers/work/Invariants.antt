@@ -11,4 +11,5 @@ invariant-loop g l = record {
   seen : Follows (g.T.Ordered.stands l.fn.store) (g.T.Ordered.stands l.store) IsPrefix;
   lane : g.T.Ordered.lane l.store ≡ g.T.Ordered.lane l.fn.store;
   origin : g.T.Ordered.origin l.store ≡ g.T.Ordered.origin l.fn.store;
+  room : g.T.Ordered.room l.store ≡ g.T.Ordered.room l.fn.store;
 }
