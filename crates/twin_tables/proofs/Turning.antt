@@ -1,5 +1,5 @@
 -- What the turn and the spare table under it come to.
-use Rattle.std.proofs.Common.{◌≡◌, ℕ, ◌+◌, ◌≤◌, List, [], length, length-set, refl, sym, ap, ◌∙◌, subst, arith, append-nil, get_or-set_other, Option, Some, None}
+use Rattle.std.proofs.Common.{◌≡◌, ℕ, ◌+◌, ◌≤◌, List, [], length, get_or, length-set, refl, sym, ap, ◌∙◌, subst, arith, append-nil, get_or-set_other, Option, Some, None}
 use Rattle.row_words.specs.declared.shape.Shape.{Shape}
 use Rattle.row_words.specs.Layout.{word_count}
 use Rattle.anchor_rules.specs.Anchors.{Anchors, AreAnchors}
@@ -9,9 +9,10 @@ use Rattle.meta_trie.specs.declared.lags.Lag.TheVariants.{Same as NoChange}
 use Rattle.meta_trie.proofs.Turning.{turn_fits}
 use Rattle.board_rule.specs.declared.view.View.{View}
 use Rattle.board_rule.specs.Pins.{Spare, LagSpot, lag_home}
-use Rattle.board_rule.specs.Views.{PINS, has_taken, noted, cleared, written, lagged}
+use Rattle.board_rule.specs.Cells.{Holding}
+use Rattle.board_rule.specs.Views.{PINS, held_at, has_taken, noted, cleared, written, lagged}
 use Rattle.board_rule.specs.Rule.{table_at}
-use Rattle.board_rule.specs.Steps.{note_or, anchors_now, current, HasSpare, kept_spare, the_spare, lag_of, Settled, SpareSettled}
+use Rattle.board_rule.specs.Steps.{note_or, anchors_now, current, HasSpare, kept_spare, the_spare, lag_of, Settled, SpareSettled, NoneAhead}
 use Rattle.board_rule.proofs.Growing.{grew_kept}
 use Rattle.twin_tables.specs.Views.{OnlySpare}
 use Rattle.twin_tables.specs.Turns.{HasTurn, Takes, Lacking, Clears, UpToDate, spare_of}
@@ -121,3 +122,7 @@ module _ (v w : View) (word i x : ℕ) (has : HasSpare v) (e : w ≡ written wor
 
   pub written_long : length (kept_spare w).rows ≡ length (kept_spare v).rows
   written_long = ap (λ (u : View). length (kept_spare u).rows) e ∙ length-set (kept_spare v).rows i x
+
+-- a view that holds no leaf holds none that is newer than its notes
+pub none_ahead : (v w : View) → w.held ≡ v.held → ((i : ℕ) (h : Holding) → held_at v i ≡ Some h → ⊥) → NoneAhead w
+none_ahead v w same idle i h e = absurd (idle i h (ap (λ (l : List (Option Holding)). get_or l i None) (sym same) ∙ e))

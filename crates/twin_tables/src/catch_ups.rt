@@ -6,7 +6,7 @@ ghost use Rattle.meta_trie.specs.Stands.{StandsFor};
 ghost use Rattle.meta_trie.specs.Lags.{CanTurnRows, turned};
 ghost use Rattle.anchor_rules.specs.Anchors.{Anchors};
 ghost use Rattle.board_rule.specs.Pins.{lag_home};
-ghost use Rattle.board_rule.specs.Steps.{HasSpare, kept_spare, lag_of, anchors_now};
+ghost use Rattle.board_rule.specs.Steps.{Grew, HasSpare, kept_spare, lag_of};
 ghost use Rattle.board_rule.specs.Views.{lagged};
 ghost use Rattle.board_rule.specs.Passes.{view, IsOf};
 ghost use Rattle.twin_tables.specs.Turns.{HasTurn, Lacking, UpToDate};
@@ -26,6 +26,7 @@ pub fn put_lag(pass: &mut Pass, board: &Board, lag: Lag) -> Lag
     requires home { (kept_spare (view pass.old)).lag ≡ lag_home (lag_of (kept_spare (view pass.old)).lag) }
     ensures of { IsOf board.now pass.new }
     ensures lane { pass.new.lane ≡ pass.old.lane }
+    ensures grew { Grew (view pass.old) (view pass.new) }
     ensures view { view pass.new ≡ lagged (lag_home lag) (kept_spare (view pass.old)) (view pass.old) }
     ensures lag { result ≡ lag_of (kept_spare (view pass.old)).lag }
 {

@@ -2,7 +2,7 @@
 
 ghost use Rattle.std.specs.Prelude.{◌≡◌, ◌+◌, ◌-◌, ◌<◌, ◌^◌, true, false, None, IsSome, IsOk, OnOk, IfOk, IfErr};
 ghost use Rattle.map_model.specs.declared.refusal.TableFull.TheVariants.{Versions};
-ghost use Rattle.board_rule.specs.Steps.{NoneAhead, SpareSettled, kept_spare, lag_of, Publishable, changed};
+ghost use Rattle.board_rule.specs.Steps.{Grew, NoneAhead, SpareSettled, kept_spare, lag_of, Publishable, changed};
 ghost use Rattle.board_rule.specs.Views.{has_given};
 ghost use Rattle.board_rule.specs.Passes.{view, IsOf, lane_of};
 ghost use Rattle.twin_tables.specs.Turns.{HasTurn, Takes, TurnTaken, Clears, SparePinned, spare_of};
@@ -44,6 +44,7 @@ pub fn take_turn(pass: &mut Pass, board: &Board) -> Result<Turn, Again>
     requires lane { IsSome pass.old.lane }
     ensures of { IsOf board.now pass.new }
     ensures lane { pass.new.lane ≡ pass.old.lane }
+    ensures grew { Grew (view pass.old) (view pass.new) }
     ensures taken { IfOk result (λ turn. Takes (lane_of pass.old.lane) turn (view pass.old) (view pass.new)) }
     ensures has { IfOk result (λ turn. HasTurn turn (view pass.new)) }
     ensures refused { IfErr result (λ again. TurnTaken (lane_of pass.old.lane) again (view pass.old) (view pass.new)) }
@@ -68,6 +69,7 @@ pub fn give_turn(pass: &mut Pass, board: &Board, turn: Turn)
     requires settled { SpareSettled board.now.shape (view pass.old) }
     ensures of { IsOf board.now pass.new }
     ensures lane { pass.new.lane ≡ pass.old.lane }
+    ensures grew { Grew (view pass.old) (view pass.new) }
     ensures view { view pass.new ≡ has_given (view pass.old) }
 {
     let Turn { version: _ } = turn;
@@ -83,6 +85,7 @@ pub fn clear(pass: &mut Pass, board: &Board, turn: &mut Turn) -> Result<(), Agai
     requires uncleared { (view pass.old).spare ≡ None }
     ensures of { IsOf board.now pass.new }
     ensures lane { pass.new.lane ≡ pass.old.lane }
+    ensures grew { Grew (view pass.old) (view pass.new) }
     ensures version { turn.new ≡ turn.old }
     ensures has { HasTurn turn.new (view pass.new) }
     ensures cleared { OnOk result (Clears board.now.shape turn.old (view pass.old) (view pass.new)) }
@@ -121,6 +124,7 @@ pub fn publish(pass: &mut Pass, board: &Board, turn: &mut Turn) -> u64
     requires can { Publishable board.now.shape (view pass.old) (lag_of (kept_spare (view pass.old)).lag) (kept_spare (view pass.old)) }
     ensures of { IsOf board.now pass.new }
     ensures lane { pass.new.lane ≡ pass.old.lane }
+    ensures grew { Grew (view pass.old) (view pass.new) }
     ensures next { (result ≡ turn.old + 1) × (turn.new ≡ result) }
     ensures view { view pass.new ≡ changed result (lag_of (kept_spare (view pass.old)).lag) (view pass.old) }
     ensures has { HasTurn turn.new (view pass.new) }
