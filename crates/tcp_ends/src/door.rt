@@ -9,6 +9,19 @@ use std::io;
 use std::io::ErrorKind;
 use std::net::{Net, SocketAddr, TcpListener, TcpStream};
 
+// Errors of Linux that are no kind of their own.
+const ENFILE: i32 = 23;
+
+const EMFILE: i32 = 24;
+
+const ENONET: i32 = 64;
+
+const EPROTO: i32 = 71;
+
+const ENOBUFS: i32 = 105;
+
+const EHOSTDOWN: i32 = 112;
+
 /// A door that listens at an address of the system. It doesn't tell its closed connections.
 #[derive(Drop)]
 pub struct TcpDoor<'a, R> {
@@ -41,24 +54,27 @@ impl<'a, R> TcpDoor<'a, R> {
         self.listener.as_ref()?.local_addr().ok()
     }
 
-    // The next connection whose client still waits.
-    fn next_stream(&self) -> Option<io::Result<TcpStream>> {
-        let listener = self.listener.as_ref()?;
+    // The next connection that isn't gone again.
+    fn next_stream(&self) -> Result<TcpStream, Stop> {
+        let Some(listener) = &self.listener else {
+            return Err(Stop::Failed);
+        };
         for _ in 0..u64::MAX {
             match listener.accept() {
-                Ok((stream, _)) => return Some(Ok(stream)),
-                Err(error) if is_of_client(error.kind()) => {}
-                Err(error) => return Some(Err(error)),
+                Ok((stream, _)) => return Ok(stream),
+                Err(error) => match blame_for(&error) {
+                    Blame::Client => {}
+                    Blame::Memory => return Err(Stop::NoMemory),
+                    Blame::Door => return Err(Stop::Failed),
+                },
             }
         }
-        None
+        Err(Stop::Failed)
     }
 
     // The two ends of the next connection.
     fn next_ends(&self) -> Result<(TcpSource, TcpSink), Stop> {
-        let Some(Ok(stream)) = self.next_stream() else {
-            return Err(Stop::Failed);
-        };
+        let stream = self.next_stream()?;
         // Without it a reply could wait until the one before it has been acknowledged. It is served all the same.
         let _ = stream.set_nodelay(true);
         match stream.try_clone() {
@@ -68,9 +84,35 @@ impl<'a, R> TcpDoor<'a, R> {
     }
 }
 
-// Whether an error of accepting is that of the connection at hand alone.
-fn is_of_client(kind: ErrorKind) -> bool {
-    kind == ErrorKind::ConnectionAborted || kind == ErrorKind::Interrupted
+// Whose an error of accepting is.
+#[derive(Clone, Copy)]
+enum Blame {
+    // Of the connection at hand, which is gone.
+    Client,
+    // Of the system, which has no memory or no descriptor left.
+    Memory,
+    // Of the listener.
+    Door,
+}
+
+// Linux hands errors of a new connection's network on to whoever accepts it, and says that these are to be asked
+// again.
+fn blame_for(error: &io::Error) -> Blame {
+    match error.kind() {
+        ErrorKind::Interrupted
+        | ErrorKind::ConnectionAborted
+        | ErrorKind::ConnectionReset
+        | ErrorKind::HostUnreachable
+        | ErrorKind::NetworkUnreachable
+        | ErrorKind::NetworkDown
+        | ErrorKind::TimedOut => Blame::Client,
+        ErrorKind::OutOfMemory => Blame::Memory,
+        _ => match error.raw_os_error() {
+            Some(EPROTO | ENONET | EHOSTDOWN) => Blame::Client,
+            Some(EMFILE | ENFILE | ENOBUFS) => Blame::Memory,
+            _ => Blame::Door,
+        },
+    }
 }
 
 impl<R: Net<Listener = TcpListener, Stream = TcpStream>> Door for TcpDoor<'_, R> {
