@@ -2,17 +2,17 @@
 use Rattle.std.proofs.Common.{◌≡◌, ℕ, eqb, cond, eq-eqb, ◌+◌, ◌/◌, ◌%◌, ◌<◌, ◌≤◌, List, [], ◌∷◌, ◌++◌, length, set, Option, Some, None, sym, refl, ap, ◌∙◌, subst, inl, ⊎_elim, arith}
 use mathlib.Core.Option.{some}
 use lib.ListN.{get_elem?}
-use Rattle.atomic_table.proofs.Lists.{at_last, at_snoc}
+use Rattle.atomic_table.proofs.Lists.{at_last, at_longer, at_snoc}
 use Rattle.row_words.specs.declared.shape.Shape.{Shape}
 use Rattle.map_model.specs.History.{Entry, after as history_map}
 use Rattle.anchor_rules.specs.Anchors.{Anchors, span}
 use Rattle.leaf_spans.specs.Spread.{inside}
 use Rattle.board_rule.specs.declared.view.View.{View}
-use Rattle.board_rule.specs.Notes.{IsNoted}
+use Rattle.board_rule.specs.Notes.{note_of, IsNoted}
 use Rattle.board_rule.specs.Cells.{Content, shown, Holding, Spot, at_home, away}
 use Rattle.board_rule.specs.Rule.{leaf_word}
 use Rattle.board_rule.specs.Views.{VERSION, looked, later, last_found, held_at, holding, spotted, worded, has, the_holding, content, content_of, HasInside, HasAway, newly_held, locked, raised, given_back, unlocked, Deed, entry}
-use Rattle.board_rule.specs.Steps.{Sat, Sees, Knew, FindsLeaf, Ties, Locked, Gives, Entered, Ends, HasNote, InSpan, Fresh}
+use Rattle.board_rule.specs.Steps.{Sat, Grew, Sees, Knew, FindsLeaf, Ties, Locked, Gives, Entered, Ends, HasNote, InSpan, Fresh}
 use Rattle.board_rule.proofs.Parts.{held_set, set_twice}
 use Rattle.leaf_versions.specs.declared.held.Held.{Held}
 use Rattle.leaf_versions.specs.Holding.{IsHeld, taken_out, held_out, Took}
@@ -92,6 +92,10 @@ took k leaf seen searched lane m n w held near small free known hit out leaf-is 
       few = let z = hit.few in let y = ap (λ c. length (shown c)) same in omega arith;
       salt = ap (λ (c : Content). c.salt) same ∙ hit.salt;
     }
+
+-- a view that grew has the notes that it had
+pub noted_on : (v w : View) (n : ℕ) (A : Anchors) → Grew v w → HasNote v n A → HasNote w n A
+noted_on v w n A grew noted = (noted.0, noted.1, ap (λ l. get_elem? l noted.0) (sym grew.notes.1) ∙ at_longer v.notes grew.notes.0 noted.0 (note_of n A noted.1) noted.2)
 
 -- a lock leaves all notes
 pub took_note : (k : Shape) (leaf seen searched lane : ℕ) (v w : View) (held : Held) (n : ℕ) (A : Anchors) → Took k leaf seen searched lane v w held → HasNote v n A → HasNote w n A
