@@ -1,5 +1,5 @@
 -- What steps leave of a view.
-use Rattle.std.proofs.Common.{◌≡◌, ◌≢◌, ℕ, ◌+◌, ◌%◌, ◌<◌, ◌≤◌, List, [], ◌∷◌, ◌++◌, length, get_or, set, refl, sym, ap, ◌∙◌, subst, arith, append_assoc, append-nil, get_or-set_other, Option, Some, None, cond, true, false, eqb, eq-eqb, ◌-◌}
+use Rattle.std.proofs.Common.{◌≡◌, ◌≢◌, ℕ, ◌+◌, ◌%◌, ◌<◌, ◌≤◌, List, [], ◌∷◌, ◌++◌, length, get_or, set, refl, sym, ap, ◌∙◌, subst, arith, append_assoc, get_or-set_other, Option, Some, None, cond, true, false, eqb, eq-eqb, ◌-◌}
 use mathlib.Core.Logic.{dite}
 use mathlib.Core.Option.{some}
 use native.Mathlib.Decide.{ℕ_discrete}
@@ -17,53 +17,11 @@ use Rattle.board_rule.specs.Rule.{row_count}
 use Rattle.board_rule.specs.Passes.{lane_of}
 use Rattle.board_rule.specs.Steps.{Sat, Notes, Pinned, Checks, Unpinned, pin_of, Knew, FindsVersion}
 use Rattle.board_rule.proofs.Growing.{grew_kept}
-use Rattle.twin_tables.specs.Views.{OnlyLooks, OnlyPin}
 use Rattle.twin_tables.specs.Pins.{pin_looks, Pins, PinMoved}
-
--- only looks
-pub looked_only : (v w : View) (word found : ℕ) → w ≡ looked word found v → OnlyLooks v w
-looked_only v w word found e = subst (OnlyLooks v) (sym e) (record {
-  same = record {
-    grew = grew_kept v (looked word found v) refl refl refl ((word, found) ∷ [], refl) ([], append-nil v.notes) (omega arith) (λ s. s);
-    sole = refl;
-    drawn = refl;
-    room = refl;
-    given = refl;
-    seen = refl;
-    met = refl;
-    ended = refl;
-    held = refl;
-  };
-  notes = refl;
-  pin = refl;
-  turn = refl;
-  current = refl;
-  spare = refl;
-  words = refl;
-})
 
 -- a word of the pins alone is another
 other_words : (words : List ℕ) (t x i : ℕ) → t < 2 → i ≢ PINS → i ≢ PINS + 1 → get_or (set words (PINS + t) x) i 0 ≡ get_or words i 0
 other_words words t x i low a b = get_or-set_other words (PINS + t) i x 0 (λ e. dite (ℕ_discrete t 0) (λ z. a (omega arith)) (λ nz. b (omega arith)))
-
--- a pin that is taken back
-pub unpinned_only : (v w : View) (t found : ℕ) → t < 2 → w ≡ unpinned t found v → OnlyPin v w
-unpinned_only v w t found low e = subst (OnlyPin v) (sym e) (record {
-  same = record {
-    grew = grew_kept v (unpinned t found v) refl refl refl ((PINS + t, found) ∷ [], refl) ([], append-nil v.notes) (omega arith) (λ s. s);
-    sole = refl;
-    drawn = refl;
-    room = refl;
-    given = refl;
-    seen = refl;
-    met = refl;
-    ended = refl;
-    held = refl;
-  };
-  turn = refl;
-  spare = refl;
-  words = λ i a b. other_words v.words t (found - 1) i low a b;
-})
 
 -- the last look is the one that was found last
 last_of : (word n : ℕ) (looks : List (ℕ × ℕ)) → last_found word (looks ++ (word, n) ∷ []) ≡ Some n

@@ -1,5 +1,5 @@
 -- The turn, and the spare table under it.
-use Rattle.std.specs.Prelude.{◌≡◌, ◌≢◌, ℕ, ◌+◌, ◌<◌, ◌%◌, length, true, false, List, Some}
+use Rattle.std.specs.Prelude.{◌≡◌, ◌≢◌, ℕ, ◌+◌, ◌<◌, ◌%◌, ◌^◌, length, true, false, List, Some}
 use Rattle.row_words.specs.declared.shape.Shape.{Shape}
 use Rattle.row_words.specs.Layout.{word_count}
 use Rattle.anchor_rules.specs.Anchors.{Anchors, AreAnchors}
@@ -20,6 +20,7 @@ HasTurn version v = (v.turn ≡ true) × (v.current ≡ Some (version, anchors_n
 pub record Takes (lane version : ℕ) (v w : View) : Type 0 where
   pub anchors : Anchors
   pub are : AreAnchors anchors
+  pub bounded : version < 2 ^ 56
   pub after : w ≡ noted version anchors (has_taken lane v)
 
 -- a lane was found to have the turn, and it isn't this one if this one hasn't the turn

@@ -28,6 +28,13 @@ impl Model for Turn {
 }
 
 impl Turn {
+    /// The version that its holder loaded or published last.
+    pub fn version(&self) -> u64
+        ensures { result ≡ self.now }
+    {
+        self.version
+    }
+
     // The table beside that of the version.
     pub(crate) fn spare_table(&self) -> u32
         ensures { result ≡ spare_of self.now }
