@@ -3,4 +3,5 @@ pub mod Escapes
 pub mod Limits
 pub mod OneLine
 pub mod Serving
+pub mod Sought
 pub mod Splits

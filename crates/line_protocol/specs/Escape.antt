@@ -3,6 +3,8 @@ use Rattle.std.specs.Prelude.{◌≡◌, ◌≢◌, ℕ, ◌+◌, ◌*◌, ◌/�
 use Rattle.std.specs.List.{flat_map}
 use Rattle.std.specs.Char.{digit_value, is_digit}
 use Rattle.std.specs.Fmt.{digit_glyph}
+use Rattle.line_protocol.specs.declared.scan.Sought.{Sought}
+use Rattle.line_protocol.specs.declared.scan.Sought.TheVariants.{Byte, Escaped}
 
 -- `%` and two hexadecimal digits of either case stand for a byte; every other byte stands for itself, a `%` without digits among them
 abbrev pub unescape : List ℕ → List ℕ
@@ -17,6 +19,11 @@ unescape (b ∷ high ∷ low ∷ more) =
 -- from 21 to 7E hexadecimal, and neither `%` nor `*`
 abbrev pub is_plain : ℕ → Bool
 is_plain b = nat_le 33 b && nat_le b 126 && not (b == 37 || b == 42)
+
+-- whether a byte is one of those
+abbrev pub is_sought : Sought → ℕ → Bool
+is_sought (Byte wanted) b = b == wanted
+is_sought Escaped b = not (is_plain b)
 
 -- the byte, or `%` and its two upper-case hexadecimal digits
 abbrev pub escape_byte : ℕ → List ℕ

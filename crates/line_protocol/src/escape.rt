@@ -6,7 +6,7 @@ ghost use Rattle.std.specs.List.{list_all};
 ghost use Rattle.std.specs.Cow.{cow_slice_items};
 ghost use Rattle.line_protocol.specs.Escape.{escape, is_plain, unescape as unescaped};
 
-use crate::scan::has_byte;
+use crate::scan::{Sought, has_byte, has_sought};
 use percent_encoding::{AsciiSet, CONTROLS, ascii_set, percent_decode, percent_encode};
 use std::alloc::{AllocError, Global};
 use std::borrow::CowSlice;
@@ -61,17 +61,10 @@ pub(crate) fn escape_into(out: &mut Vec<u8>, bytes: &[u8]) -> Result<(), AllocEr
     Ok(())
 }
 
-/// Whether each of these bytes stands for itself. It reads all of them and does not stop at the
-/// first that does not, so that many are tested at once.
+/// Whether each of these bytes stands for itself.
+#[inline(always)]
 fn are_plain(bytes: &[u8]) -> bool
     ensures { result ≡ list_all is_plain bytes.now }
 {
-    bytes.iter().fold(true, |all, byte| all & is_plain(*byte))
-}
-
-/// Whether a byte stands for itself. It does not branch, for the sake of `are_plain`.
-fn is_plain(byte: u8) -> bool
-    ensures { result ≡ is_plain byte }
-{
-    (byte.wrapping_sub(0x21) < 0x5e) & (byte != b'%') & (byte != b'*')
+    !has_sought(bytes, Sought::Escaped)
 }
