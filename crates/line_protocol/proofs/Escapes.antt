@@ -1,11 +1,10 @@
 -- The definitions against those of `percent_encoding`.
-use Rattle.std.proofs.Common.{◌≡◌, ℕ, ◌+◌, ◌*◌, ◌/◌, ◌%◌, ◌<◌, Bool, true, false, cond, eqb, ltb, not, ◌&&◌, List, [], ◌∷◌, ◌++◌, All, refl, sym, ap, ◌∙◌, arith, ⊎_elim}
+use Rattle.std.proofs.Common.{◌≡◌, ℕ, ◌+◌, ◌*◌, ◌/◌, ◌%◌, ◌<◌, true, false, cond, eqb, ltb, not, ◌&&◌, List, [], ◌∷◌, ◌++◌, All, refl, sym, ap, ◌∙◌, arith, ⊎_elim}
 use Rattle.std.specs.List.{list_all, list_any}
 use Rattle.std.specs.Char.{digit_value, is_digit}
 use Rattle.std.specs.Fmt.{digit_glyph}
 use Rattle.std.proofs.lemmas.Bool.{cond-true, cond-false, cond_both, ltb-true, and_left, and_parts, or_parts, agree_below_at, cases_Bool}
 use Rattle.std.proofs.lemmas.Bool.Decides.{nat_tests}
-use Rattle.std.proofs.lemmas.List.Recursion.{and_push}
 use Rattle.std.proofs.lemmas.List.Elements.{All-nil, All-cons, All-head, All-tail, All-append}
 use Rattle.percent_encoding.specs.declared.ascii_set.AsciiSet.{AsciiSet}
 use Rattle.percent_encoding.specs.AsciiSet.{should_percent_encode}
@@ -116,11 +115,6 @@ escape_form (b ∷ bytes) small =
     cond_both (is_plain b) (b ∷ []) (37 ∷ high ∷ low ∷ []) (λ w. IsEscaped (w ++ escape bytes))
     (λ plain. Plain b (escape bytes) plain rest)
     (λ _. Escape high low (escape bytes) (hex_glyph (b / 16) (omega arith)) (hex_glyph (b % 16) (omega arith)) rest)
-
--- a running test of plain bytes goes on by one
-pub plain_push : (bytes : List ℕ) (b : ℕ) (all next : Bool) → all ≡ list_all is_plain bytes → next ≡ (all && is_plain b) → next ≡ list_all is_plain (bytes ++ b ∷ [])
-plain_push bytes b all next kept step =
-    step ∙ ap (λ t. t && is_plain b) kept ∙ sym (and_push (list_all is_plain) is_plain refl (λ x xs. refl) bytes b)
 
 -- plain bytes stand for themselves
 pub escape_plain : (bytes : List ℕ) → list_all is_plain bytes ≡ true → escape bytes ≡ bytes

@@ -2,7 +2,6 @@
 use Rattle.std.proofs.Common.{◌≡◌, ℕ, ◌+◌, ◌<◌, ◌≤◌, Bool, true, false, cond, eqb, ◌||◌, List, [], ◌∷◌, ◌++◌, length, take, drop, All, refl, sym, ap, ◌∙◌, subst, arith, ⊎_elim}
 use Rattle.std.specs.List.{onto_first, list_any}
 use Rattle.std.proofs.lemmas.Bool.{false≢true, cond-true, cond-false, cases_Bool, or_parts, false_from_ne_true, eqb-true}
-use Rattle.std.proofs.lemmas.List.Recursion.{or_push}
 use Rattle.std.proofs.lemmas.List.{take-append-drop, drop_more, get_or-take, length-take-le}
 use Rattle.std.proofs.lemmas.List.Elements.{All-nil, All-cons, All-from_get_or}
 use Rattle.std.proofs.lemmas.List.Splits.{slice_split_none, slice_split_at}
@@ -79,11 +78,6 @@ one_many bytes any = ap one (words_many bytes any).whole
 
 pub one_whole : (bytes : List ℕ) → list_any IsSpace bytes ≡ false → one (words_of bytes) ≡ Some bytes
 one_whole bytes none = ap one (slice_split_none IsSpace bytes (All-from_list_any IsSpace bytes none))
-
--- a running search for a byte goes on by one
-pub any_push : (wanted : ℕ) (bytes : List ℕ) (b : ℕ) (any next : Bool) → any ≡ list_any (λ b. eqb b wanted) bytes → next ≡ (any || eqb b wanted) → next ≡ list_any (λ b. eqb b wanted) (bytes ++ b ∷ [])
-any_push wanted bytes b any next kept step =
-    step ∙ ap (λ t. t || eqb b wanted) kept ∙ sym (or_push (list_any (λ b. eqb b wanted)) (λ b. eqb b wanted) refl (λ x xs. refl) bytes b)
 
 pub quit_more : (words : List (List ℕ)) → IsSome words → quit words ≡ Err (Fault Words)
 quit_more words some = ap quit some.whole

@@ -1,7 +1,6 @@
 -- Lines of words and numbers.
-use Rattle.std.specs.Prelude.{◌≡◌, ◌≢◌, ℕ, List, [], ◌∷◌, ◌++◌, length, take, map, All, decimal, Result, Ok, Err}
+use Rattle.std.specs.Prelude.{◌≡◌, ◌≢◌, ℕ, List, [], ◌∷◌, ◌++◌, length, take, All, decimal, Result, Ok, Err}
 use Rattle.std.specs.List.{flat_map}
-use Rattle.std.specs.Borrow.{Bor}
 use Rattle.line_protocol.specs.Escape.{escape}
 
 -- a space and the number
@@ -19,10 +18,6 @@ escaped_word bytes = 32 ∷ escape bytes
 -- the front, the words and LF
 abbrev pub word_line : List ℕ → List (List ℕ) → List ℕ
 word_line front words = front ++ flat_map escaped_word words ++ 10 ∷ []
-
--- what the references point to
-abbrev pub nows : List (Bor (List ℕ)) → List (List ℕ)
-nows words = map (λ (w : Bor (List ℕ)). w.now) words
 
 -- the text was appended, or nothing was
 abbrev pub AppendsAll : {T E : Type 0} → Result T E → List ℕ → List ℕ → List ℕ → Type 0

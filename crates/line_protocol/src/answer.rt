@@ -3,7 +3,7 @@ ghost use Rattle.line_protocol.specs.ReplyLine.{AppendsAll};
 ghost use Rattle.line_protocol.specs.Texts.{text, again_text, full_text, fault_text, pair_line};
 
 use crate::Fault;
-use crate::reply_line::{append_numbers, append_words};
+use crate::reply_line::{append_numbers, append_pair, append_value};
 use map_model::{Again, Full};
 use std::alloc::AllocError;
 
@@ -41,7 +41,7 @@ pub fn reply_text(out: &mut Vec<u8>, answer: &Answer<'_>) -> Result<(), AllocErr
     match answer {
         Answer::New => append_numbers(out, b"NEW", &[]),
         Answer::Set => append_numbers(out, b"SET", &[]),
-        Answer::Value(value) => append_words(out, b"VALUE", &[*value]),
+        Answer::Value(value) => append_value(out, value),
         Answer::Absent => append_numbers(out, b"NONE", &[]),
         Answer::Gone => append_numbers(out, b"GONE", &[]),
         Answer::End(count) => append_numbers(out, b"END", &[*count]),
@@ -57,7 +57,7 @@ pub fn reply_text(out: &mut Vec<u8>, answer: &Answer<'_>) -> Result<(), AllocErr
 pub fn pair_text(out: &mut Vec<u8>, key: &[u8], value: &[u8]) -> Result<(), AllocError>
     ensures { AppendsAll result out.old.items out.new.items (pair_line key.now value.now) }
 {
-    append_words(out, b"PAIR", &[key, value])
+    append_pair(out, key, value)
 }
 
 fn fault_reply(out: &mut Vec<u8>, fault: Fault) -> Result<(), AllocError>

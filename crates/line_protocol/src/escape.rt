@@ -48,6 +48,7 @@ pub(crate) fn unescape_into(buffer: &mut [u8], word: &[u8]) -> Option<usize>
 }
 
 /// Appends the word that stands for these bytes. After an `Err` some of it may have been appended.
+#[inline(always)]
 pub(crate) fn escape_into(out: &mut Vec<u8>, bytes: &[u8]) -> Result<(), AllocError>
     ensures ok { OnOk result (out.new.items ≡ out.old.items ++ escape bytes.now) }
     ensures err { OnErr result (take (length out.old.items) out.new.items ≡ out.old.items) }
@@ -55,6 +56,17 @@ pub(crate) fn escape_into(out: &mut Vec<u8>, bytes: &[u8]) -> Result<(), AllocEr
     if are_plain(bytes) {
         return out.extend_from_slice(bytes);
     }
+    escape_each(out, bytes)
+}
+
+/// The same where some bytes don't stand for themselves. It stays a call, so that a word without escapes
+/// is appended with few steps.
+#[cold]
+#[inline(never)]
+fn escape_each(out: &mut Vec<u8>, bytes: &[u8]) -> Result<(), AllocError>
+    ensures ok { OnOk result (out.new.items ≡ out.old.items ++ escape bytes.now) }
+    ensures err { OnErr result (take (length out.old.items) out.new.items ≡ out.old.items) }
+{
     for piece in percent_encode(bytes, CUTS) {
         out.extend_from_slice(piece.as_bytes())?;
     }

@@ -1,5 +1,6 @@
 //! Lines of words and numbers, appended whole or not at all.
-ghost use Rattle.line_protocol.specs.ReplyLine.{Appends, AppendsAll, number_line, word_line, nows};
+ghost use Rattle.line_protocol.specs.ReplyLine.{Appends, AppendsAll, number_line};
+ghost use Rattle.line_protocol.specs.Texts.{pair_line, value_line};
 
 use crate::escape::escape_into;
 use itoa::Buffer;
@@ -21,16 +22,24 @@ pub(crate) fn append_numbers(
     result
 }
 
-/// Appends a line of a front and words with escapes, or nothing.
-pub(crate) fn append_words(
-    out: &mut Vec<u8>,
-    front: &[u8],
-    words: &[&[u8]],
-) -> Result<(), AllocError>
-    ensures { AppendsAll result out.old.items out.new.items (word_line front.now (nows words.now)) }
+/// Appends the line of a value, or nothing.
+pub(crate) fn append_value(out: &mut Vec<u8>, value: &[u8]) -> Result<(), AllocError>
+    ensures { AppendsAll result out.old.items out.new.items (value_line value.now) }
 {
     let length = out.len();
-    let result = push_words(out, front, words);
+    let result = push_value(out, value);
+    if result.is_err() {
+        out.truncate(length);
+    }
+    result
+}
+
+/// Appends the line of a pair, or nothing.
+pub(crate) fn append_pair(out: &mut Vec<u8>, key: &[u8], value: &[u8]) -> Result<(), AllocError>
+    ensures { AppendsAll result out.old.items out.new.items (pair_line key.now value.now) }
+{
+    let length = out.len();
+    let result = push_pair(out, key, value);
     if result.is_err() {
         out.truncate(length);
     }
@@ -49,13 +58,20 @@ fn push_numbers(out: &mut Vec<u8>, front: &[u8], numbers: &[u64]) -> Result<(), 
     out.extend_from_slice(b"\n")
 }
 
-fn push_words(out: &mut Vec<u8>, front: &[u8], words: &[&[u8]]) -> Result<(), AllocError>
-    ensures { Appends result out.old.items out.new.items (word_line front.now (nows words.now)) }
+fn push_value(out: &mut Vec<u8>, value: &[u8]) -> Result<(), AllocError>
+    ensures { Appends result out.old.items out.new.items (value_line value.now) }
 {
-    out.extend_from_slice(front)?;
-    for word in words {
-        out.extend_from_slice(b" ")?;
-        escape_into(out, word)?;
-    }
+    out.extend_from_slice(b"VALUE ")?;
+    escape_into(out, value)?;
+    out.extend_from_slice(b"\n")
+}
+
+fn push_pair(out: &mut Vec<u8>, key: &[u8], value: &[u8]) -> Result<(), AllocError>
+    ensures { Appends result out.old.items out.new.items (pair_line key.now value.now) }
+{
+    out.extend_from_slice(b"PAIR ")?;
+    escape_into(out, key)?;
+    out.extend_from_slice(b" ")?;
+    escape_into(out, value)?;
     out.extend_from_slice(b"\n")
 }

@@ -115,8 +115,6 @@ fn is_sought(byte: u8, sought: Sought) -> bool
 {
     match sought {
         Sought::Byte(wanted) => byte == wanted,
-        Sought::Escaped => {
-            (byte.wrapping_sub(0x21) >= 0x5e) | (byte == b'%') | (byte == b'*')
-        }
+        Sought::Escaped => { (byte.wrapping_sub(0x21) >= 0x5e) | (byte == b'%') | (byte == b'*') }
     }
 }

@@ -1,4 +1,4 @@
-use Rattle.std.proofs.Common.{◌≡◌, ◌+◌, ◌-◌, ◌≤◌, length, take, false, ℕ}
+use Rattle.std.proofs.Common.{◌≡◌, ◌-◌, ◌≤◌, length, take, false}
 use Rattle.std.specs.List.{list_any}
 use Rattle.line_protocol.specs.Escape.{is_sought}
 use Rattle.line_protocol.proofs.scan.in_parts.Given as goal

@@ -1,7 +1,7 @@
 use Rattle.std.proofs.Common.{◌≡◌, ◌++◌, take, length}
 use Rattle.percent_encoding.specs.Iter.{encoded_text}
 use Rattle.line_protocol.specs.Escape.{escape}
-use Rattle.line_protocol.proofs.escape.escape_into.Given as goal
+use Rattle.line_protocol.proofs.escape.escape_each.Given as goal
 
 abbrev pub invariant-loop-piece : goal.invariant-loop-piece
 invariant-loop-piece l = record {
