@@ -11,12 +11,15 @@ use Rattle.std.proofs.lemmas.Slice.Eq.{bytes_eq-Decides}
 use Rattle.command_line.specs.Number.{is_number, number}
 use Rattle.command_line.specs.Marks.{Mark, Positional, Chosen, positional, names}
 use Rattle.command_line.specs.Options.{name_of, fields, is_known, values, is_choice, first_number}
-use Rattle.command_line.specs.Commands.{command_for, command_of, command_with, fill}
+use Rattle.command_line.specs.Commands.{Wanted, command_by, command_for, command_of, command_with, fill}
+use Rattle.command_line.specs.Verbs.{verb_of}
+use Rattle.command_line.specs.Places.{place_of}
 use Rattle.command_line.specs.Reading.{list_of, number_at, Chose, Takes, IsRefused}
 use Rattle.command_line.specs.declared.choices.Choices.{Choices}
-use Rattle.command_line.specs.declared.command.Command.{Command}
+use Rattle.command_line.specs.declared.verb.Verb.{Verb}
+use Rattle.command_line.specs.declared.verb.Verb.TheVariants as verbs
 use Rattle.command_line.specs.declared.field.Field.{Field}
-use Rattle.command_line.specs.declared.field.Field.TheVariants.{Leaves, Items, Heads, Values, Lanes, Soft, Hard, MergeSum, Salt}
+use Rattle.command_line.specs.declared.field.Field.TheVariants.{Leaves, Items, Heads, Values, Lanes, Soft, Hard, MergeSum, Salt, Tries, Workers, Sessions}
 use Rattle.row_words.specs.declared.shape.Shape.{Shape}
 
 -- the number of each field, where it has one
@@ -34,11 +37,11 @@ abbrev pub number_from : Option ℕ → List (List ℕ) → Option ℕ
 number_from None vs = first_number vs
 number_from (Some n) vs = Some n
 
-abbrev pub outcome_by : Bool → (Field → Bool) → List ℕ → List (List ℕ) → Numbers → Option Command
+abbrev pub outcome_by : Bool → (Field → Bool) → List ℕ → List (List ℕ) → Numbers → Option Wanted
 outcome_by known tests word words numbers = cond (known && list_all tests fields) (command_for word words numbers) None
 
 -- the command of a first word, of what was chosen so far, and of further marks
-abbrev pub outcome : Numbers → List (List ℕ) → List Mark → List ℕ → Option Command
+abbrev pub outcome : Numbers → List (List ℕ) → List Mark → List ℕ → Option Wanted
 outcome numbers words ms word =
     outcome_by (list_all is_known (names ms)) (λ f. choice_from (numbers f) (values ms f)) word (words ++ positional ms) (λ f. number_from (numbers f) (values ms f))
 
@@ -53,6 +56,24 @@ outcome_same {known} {known'} {tests} {tests'} {words} {words'} {numbers} {numbe
 pub outcome_start : (numbers : Numbers) (words : List (List ℕ)) → ((f : Field) → numbers f ≡ None) → words ≡ [] → (ms : List Mark) (word : List ℕ) → outcome numbers words ms word ≡ command_of word ms
 outcome_start numbers words none empty ms word =
     outcome_same word refl (λ f. ap (λ o. choice_from o (values ms f)) (none f)) (ap (λ ws. ws ++ positional ms) empty) (λ f. ap (λ o. number_from o (values ms f)) (none f))
+
+-- where twelve fields have no number, none has one
+abbrev no_numbers : List (Option ℕ)
+no_numbers = None ∷ None ∷ None ∷ None ∷ None ∷ None ∷ None ∷ None ∷ None ∷ None ∷ None ∷ None ∷ []
+
+pub none_at : (f : Field) → get_or no_numbers (place_of f) None ≡ None
+none_at Leaves = refl
+none_at Items = refl
+none_at Heads = refl
+none_at Values = refl
+none_at Lanes = refl
+none_at Soft = refl
+none_at Hard = refl
+none_at MergeSum = refl
+none_at Salt = refl
+none_at Tries = refl
+none_at Workers = refl
+none_at Sessions = refl
 
 choice_end : (o : Option ℕ) → choice_from o [] ≡ true
 choice_end None = refl
@@ -76,7 +97,8 @@ named_back : List ℕ → Field
 named_back name =
     cond (bytes_eq name (name_of Leaves)) Leaves (cond (bytes_eq name (name_of Items)) Items (cond (bytes_eq name (name_of Heads)) Heads
     (cond (bytes_eq name (name_of Values)) Values (cond (bytes_eq name (name_of Lanes)) Lanes (cond (bytes_eq name (name_of Soft)) Soft
-    (cond (bytes_eq name (name_of Hard)) Hard (cond (bytes_eq name (name_of MergeSum)) MergeSum Salt)))))))
+    (cond (bytes_eq name (name_of Hard)) Hard (cond (bytes_eq name (name_of MergeSum)) MergeSum
+    (cond (bytes_eq name (name_of Salt)) Salt (cond (bytes_eq name (name_of Tries)) Tries (cond (bytes_eq name (name_of Workers)) Workers Sessions))))))))))
 
 named_same : (f : Field) → named_back (name_of f) ≡ f
 unfolding named_back
@@ -89,6 +111,9 @@ named_same Soft = refl
 named_same Hard = refl
 named_same MergeSum = refl
 named_same Salt = refl
+named_same Tries = refl
+named_same Workers = refl
+named_same Sessions = refl
 
 name_apart : (f g : Field) → name_of f ≡ name_of g → f ≡ g
 name_apart f g e = sym (named_same f) ∙ ap named_back e ∙ named_same g
@@ -103,6 +128,9 @@ field_known Soft = refl
 field_known Hard = refl
 field_known MergeSum = refl
 field_known Salt = refl
+field_known Tries = refl
+field_known Workers = refl
+field_known Sessions = refl
 
 -- what holds of all fields holds of each
 rest_pass : (t : Field → Bool) (f : Field) (fs : List Field) → list_all t (f ∷ fs) ≡ true → (t f ≡ true) × (list_all t fs ≡ true)
@@ -123,6 +151,9 @@ each_field t h Soft = at_place t fields 5 Leaves (omega arith) h
 each_field t h Hard = at_place t fields 6 Leaves (omega arith) h
 each_field t h MergeSum = at_place t fields 7 Leaves (omega arith) h
 each_field t h Salt = at_place t fields 8 Leaves (omega arith) h
+each_field t h Tries = at_place t fields 9 Leaves (omega arith) h
+each_field t h Workers = at_place t fields 10 Leaves (omega arith) h
+each_field t h Sessions = at_place t fields 11 Leaves (omega arith) h
 
 -- a value that is no number, or a second value, is no choice
 choice_fault : (o : Option ℕ) (value : List ℕ) (vs : List (List ℕ)) → (is_some o ≡ true) ⊎ (number value ≡ None) → choice_from o (value ∷ vs) ≡ false
@@ -192,15 +223,22 @@ fill_crowded a b w [] more k = refl
 fill_crowded a b w (x ∷ rest) more k = refl
 
 -- no command has three positional words
-crowded : (words : List (List ℕ)) (w : List ℕ) (more : List (List ℕ)) → 2 ≤ length words → (word : List ℕ) (k : Shape) → command_with word (words ++ w ∷ more) k ≡ None
-crowded [] w more two word k = absurd (omega arith)
-crowded (a ∷ []) w more two word k = absurd (omega arith)
-crowded (a ∷ b ∷ rest) w more two word k = same_cond _ _ _ None refl (same_cond _ _ _ None (fill_crowded a b w rest more k) refl)
+crowded : (v : Verb) (words : List (List ℕ)) (w : List ℕ) (more : List (List ℕ)) → 2 ≤ length words → (numbers : Numbers) (k : Shape) → command_with v (words ++ w ∷ more) numbers k ≡ None
+crowded v [] w more two numbers k = absurd (omega arith)
+crowded v (a ∷ []) w more two numbers k = absurd (omega arith)
+crowded verbs.Run (a ∷ b ∷ rest) w more two numbers k = refl
+crowded verbs.Lanes (a ∷ b ∷ rest) w more two numbers k = refl
+crowded verbs.Serve (a ∷ b ∷ rest) w more two numbers k = refl
+crowded verbs.Fill (a ∷ b ∷ rest) w more two numbers k = fill_crowded a b w rest more k
+
+crowded_by : (o : Option Verb) (words : List (List ℕ)) (w : List ℕ) (more : List (List ℕ)) → 2 ≤ length words → (numbers : Numbers) → command_by o (words ++ w ∷ more) numbers ≡ None
+crowded_by None words w more two numbers = refl
+crowded_by (Some v) words w more two numbers = same_cond _ _ _ None (crowded v words w more two numbers _) refl
 
 -- a mark that is refused
 pub refused_outcome : (before : Choices) (m : Mark) → IsRefused before m → (ms : List Mark) (word : List ℕ) → outcome (number_at before) (list_of before.words) (m ∷ ms) word ≡ None
 refused_outcome before (Positional w) two ms word =
-    same_cond _ _ _ None (same_cond _ _ _ None (crowded (list_of before.words) w (positional ms) two word _) refl) refl
+    same_cond _ _ _ None (crowded_by (verb_of word) (list_of before.words) w (positional ms) two _) refl
 refused_outcome before (Chosen name value) (inl unknown) ms word = cond-false _ _ _ (and_left _ _ (and_left _ _ unknown))
 refused_outcome before (Chosen name value) (inr bad) ms word =
     let tests : Field → Bool = λ f. choice_from (number_at before f) (values (Chosen name value ∷ ms) f) in

@@ -1,4 +1,4 @@
--- The options that choose the numbers of a shape.
+-- The options, and the numbers that they choose.
 use Rattle.std.specs.Prelude.{ℕ, ◌==◌, ◌/◌, ◌%◌, ◌&&◌, Bool, true, false, nat_lt, nat_le, List, [], ◌∷◌, codes, Option, None, unwrap_or, if◌then◌else◌}
 use Rattle.std.specs.List.{list_any, list_all}
 use Rattle.std.specs.Int.{is_in_range}
@@ -7,7 +7,7 @@ use Rattle.row_words.specs.declared.shape.Shape.{Shape}
 use Rattle.command_line.specs.Number.{is_number, number}
 use Rattle.command_line.specs.Marks.{Mark, Positional, Chosen, names}
 use Rattle.command_line.specs.declared.field.Field.{Field}
-use Rattle.command_line.specs.declared.field.Field.TheVariants.{Leaves, Items, Heads, Values, Lanes, Soft, Hard, MergeSum, Salt}
+use Rattle.command_line.specs.declared.field.Field.TheVariants.{Leaves, Items, Heads, Values, Lanes, Soft, Hard, MergeSum, Salt, Tries, Workers, Sessions}
 
 -- the option of a field
 abbrev pub name_of : Field → List ℕ
@@ -20,10 +20,13 @@ name_of Soft = codes "--soft"
 name_of Hard = codes "--hard"
 name_of MergeSum = codes "--merge-sum"
 name_of Salt = codes "--salt"
+name_of Tries = codes "--tries"
+name_of Workers = codes "--workers"
+name_of Sessions = codes "--sessions"
 
 -- all fields
 abbrev pub fields : List Field
-fields = Leaves ∷ Items ∷ Heads ∷ Values ∷ Lanes ∷ Soft ∷ Hard ∷ MergeSum ∷ Salt ∷ []
+fields = Leaves ∷ Items ∷ Heads ∷ Values ∷ Lanes ∷ Soft ∷ Hard ∷ MergeSum ∷ Salt ∷ Tries ∷ Workers ∷ Sessions ∷ []
 
 -- it is the option of a field
 abbrev pub is_known : List ℕ → Bool

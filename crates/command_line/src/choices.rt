@@ -4,11 +4,13 @@ ghost use Rattle.row_words.specs.Shape.{IsShape};
 ghost use Rattle.command_line.specs.Marks.{Chosen, marks};
 ghost use Rattle.command_line.specs.Options.{is_shape, shape_with};
 ghost use Rattle.command_line.specs.Commands.{command_of, command_for};
+ghost use Rattle.command_line.specs.Verbs.{allows, suits};
 ghost use Rattle.command_line.specs.Reading.{mark_of, list_of, number_at, IsRefused, Takes, IsNoCommand};
 
 use crate::field::Field;
 use crate::mark::{Mark, first_mark};
 use crate::number::read_number;
+use crate::verb::Verb;
 use row_words::Shape;
 
 /// The positional words so far: no command has more than two.
@@ -37,7 +39,7 @@ impl<'a> Words<'a> {
 #[derive(Clone, Copy)]
 pub(crate) struct Choices<'a> {
     /// The chosen numbers, each at the place of its field.
-    pub(crate) numbers: [Option<u64>; 9],
+    pub(crate) numbers: [Option<u64>; 12],
     pub(crate) words: Words<'a>,
 }
 
@@ -47,7 +49,7 @@ pub(crate) fn read_choices<'a>(words: &'a [String]) -> Option<Choices<'a>>
         (λ c. (word : List ℕ) → command_of word ms ≡ command_for word (list_of c.words) (number_at c)) }
 {
     let mut choices = Choices {
-        numbers: [None; 9],
+        numbers: [None; 12],
         words: Words::Absent,
     };
     let mut rest = words;
@@ -93,6 +95,29 @@ impl<'a> Choices<'a> {
             numbers,
             words: self.words,
         })
+    }
+
+    /// The number that is chosen for a field.
+    pub(crate) fn number(&self, field: Field) -> Option<u64>
+        ensures { result ≡ number_at self.now field }
+    {
+        self.numbers[field.place()]
+    }
+
+    /// Whether a field has no number, or the command has its option.
+    fn allows(&self, verb: Verb, field: Field) -> bool
+        ensures { result ≡ allows verb (number_at self.now) field }
+    {
+        verb.has(field) || self.number(field).is_none()
+    }
+
+    /// Whether the command has all options that were chosen.
+    pub(crate) fn suits(&self, verb: Verb) -> bool
+        ensures { result ≡ suits verb (number_at self.now) }
+    {
+        self.allows(verb, Field::Tries)
+            && self.allows(verb, Field::Workers)
+            && self.allows(verb, Field::Sessions)
     }
 
     /// The number of a field that has 32 bits, unless what is chosen for it has more.

@@ -1,9 +1,9 @@
-//! The numbers of a shape, and the options that choose them.
+//! The numbers that options choose.
 ghost use Rattle.std.specs.Prelude.{◌≡◌, ◌<◌, false, MatchOption};
 ghost use Rattle.command_line.specs.Options.{is_known, name_of};
 ghost use Rattle.command_line.specs.Places.{place_of};
 
-/// A number of a shape.
+/// A number that an option chooses: one of a shape, or one of a command.
 #[derive(Clone, Copy, Debug, PartialEq, Eq)]
 pub(crate) enum Field {
     Leaves,
@@ -15,6 +15,9 @@ pub(crate) enum Field {
     Hard,
     MergeSum,
     Salt,
+    Tries,
+    Workers,
+    Sessions,
 }
 
 impl Field {
@@ -32,14 +35,17 @@ impl Field {
             "--hard" => Some(Field::Hard),
             "--merge-sum" => Some(Field::MergeSum),
             "--salt" => Some(Field::Salt),
+            "--tries" => Some(Field::Tries),
+            "--workers" => Some(Field::Workers),
+            "--sessions" => Some(Field::Sessions),
             _ => None,
         }
     }
 
-    /// Its place among the nine.
+    /// Its place among the twelve.
     pub(crate) fn place(self) -> usize
         ensures place { result ≡ place_of self }
-        ensures below { result < 9 }
+        ensures below { result < 12 }
     {
         match self {
             Field::Leaves => 0,
@@ -51,6 +57,9 @@ impl Field {
             Field::Hard => 6,
             Field::MergeSum => 7,
             Field::Salt => 8,
+            Field::Tries => 9,
+            Field::Workers => 10,
+            Field::Sessions => 11,
         }
     }
 }

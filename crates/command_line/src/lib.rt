@@ -9,6 +9,9 @@ mod mark;
 mod number;
 #[cfg(test)]
 mod tests;
+mod verb;
 
-pub use command::{Command, MOST_LINES, read_command};
+pub use command::{
+    Command, LONGEST_ADDRESS, MOST_LINES, MOST_TRIES, STANDARD_WORKERS, read_command,
+};
 pub use laws::{any_order, both_forms, same_ranges, worked_lines};

@@ -143,7 +143,7 @@ const FILLS: [(&[&str], u64, u32, Shape); 7] = [
 
 // Words that are no command: none, another first word, positional words that are missing or too many, options that
 // aren't known, repeated or without a number, numbers out of form or out of range, and other words that begin with `-`.
-const OTHERS: [&[&str]; 72] = [
+const OTHERS: [&[&str]; 84] = [
     &[],
     &[""],
     &["help"],
@@ -152,8 +152,6 @@ const OTHERS: [&[&str]; 72] = [
     &["--"],
     &["Run"],
     &["run "],
-    &["lanes", "4"],
-    &["serve", "127.0.0.1:4000"],
     &["--soft", "64", "run"],
     &["run", "extra"],
     &["run", ""],
@@ -216,6 +214,36 @@ const OTHERS: [&[&str]; 72] = [
     &["run", "--lanes", "65"],
     &["run", "--lanes", "4294967312"],
     &["run", "--soft", "32"],
+    &["lanes"],
+    &["lanes", "0"],
+    &["lanes", "17"],
+    &["lanes", "2", "3"],
+    &["lanes", "2", "--tries", "0"],
+    &["lanes", "2", "--tries", "1000001"],
+    &["lanes", "2", "--workers", "2"],
+    &["run", "--tries", "9"],
+    &["serve"],
+    &["serve", ""],
+    &["serve", "127.0.0.1:0", "--workers", "17"],
+    &["serve", "127.0.0.1:0", "--workers=0"],
+    &["serve", "127.0.0.1:0", "--tries", "9"],
+    &["fill", "1", "2", "--sessions", "3"],
+];
+
+// Words behind `lanes`, and how many lanes there are and how often they try.
+const LANES: [(&[&str], u32, Option<u32>); 4] = [
+    (&["1"], 1, None),
+    (&["16"], 16, None),
+    (&["--tries", "1000000", "2"], 2, Some(1_000_000)),
+    (&["64", "--lanes=64", "--tries=1"], 64, Some(1)),
+];
+
+// Words behind `serve`, and the address, the workers and the sessions.
+const SERVES: [(&[&str], &str, u32, u64); 4] = [
+    (&["127.0.0.1:0"], "127.0.0.1:0", 4, 0),
+    (&["--lanes", "2", "x"], "x", 2, 0),
+    (&["x", "--workers", "16", "--sessions", "3"], "x", 16, 3),
+    (&["x", "--sessions=18446744073709551615"], "x", 4, u64::MAX),
 ];
 
 fn words(alloc: Global, first: Option<&str>, texts: &[&str]) -> Result<Vec<String>, AllocError> {
@@ -261,6 +289,47 @@ fn other_words_are_no_command(rt: HostRuntime) -> Result<(), Fail> {
     for texts in OTHERS {
         let words = words(rt.alloc(), None, texts)?;
         assert_eq!(rt; read_command(&words), None, "at {texts:?}");
+    }
+    Ok(())
+}
+
+// Whether these words are a command with so many lanes.
+fn has_lanes(words: &Vec<String>, want: u32, often: Option<u32>) -> bool {
+    match read_command(words) {
+        Some(Command::Lanes { count, tries, .. }) => count == want && tries == often,
+        _ => false,
+    }
+}
+
+#[test]
+fn lanes_have_a_number_and_tries(rt: HostRuntime) -> Result<(), Fail> {
+    for (texts, count, tries) in LANES {
+        let words = words(rt.alloc(), Some("lanes"), texts)?;
+        assert!(rt; has_lanes(&words, count, tries), "at {texts:?}");
+    }
+    Ok(())
+}
+
+// Whether these words are a command to serve this address so.
+fn serves(words: &Vec<String>, want: &str, many: u32, most: u64) -> bool {
+    match read_command(words) {
+        Some(
+            Command::Serve {
+                address,
+                workers,
+                sessions,
+                ..
+            },
+        ) => address == want && workers == many && sessions == most,
+        _ => false,
+    }
+}
+
+#[test]
+fn a_server_has_an_address_workers_and_sessions(rt: HostRuntime) -> Result<(), Fail> {
+    for (texts, address, workers, sessions) in SERVES {
+        let words = words(rt.alloc(), Some("serve"), texts)?;
+        assert!(rt; serves(&words, address, workers, sessions), "at {texts:?}");
     }
     Ok(())
 }

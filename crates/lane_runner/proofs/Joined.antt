@@ -78,10 +78,13 @@ each_serves limit from most (script ∷ scripts) [] owes before now same all = a
 each_serves limit from most (script ∷ scripts) (end ∷ ends) owes before now same all =
     let lane = all.0 in
     let below = rest_below limit (lane + 1) most scripts ends all.2 before now (omega (arith, all.4)) all.7 in
-    let is : lane ≡ from = omega (arith, same, all.3, below) in
-    (all.1, all.2, all.5,
+    let is : lane ≡ from = omega (arith, same, all.3, below) in (
+      all.1,
+      all.2,
+      all.5,
       subst (λ n. ServesScript limit n false NothingFits script.items end.ending end.output all.1 before now) is all.6,
-      subst (λ n. EachServes limit (n + 1) scripts ends all.2 before now) is (each_serves limit (lane + 1) most scripts ends all.2 before now (omega (arith, same, is)) all.7))
+      subst (λ n. EachServes limit (n + 1) scripts ends all.2 before now) is (each_serves limit (lane + 1) most scripts ends all.2 before now (omega (arith, same, is)) all.7),
+    )
 
 -- so where there are as many scripts as lanes, lane i served script i
 pub places_serve : (limit : Option ℕ) (lane : ℕ) (sole : Bool) (fits : List Entry → Type 0) (most : ℕ) (scripts : List (Vec ℕ Global)) (ends : List LaneEnd) (count next : ℕ) (before now : List Entry) → lane < most → most ≡ length scripts → LanesServe limit lane sole fits most scripts ends count next before now → PlacesServe limit sole fits scripts ends count next before now
@@ -89,7 +92,10 @@ places_serve limit lane sole fits most [] ends count next before now within same
 places_serve limit lane sole fits most (script ∷ scripts) [] count next before now within same all = absurd all
 places_serve limit lane sole fits most (script ∷ scripts) (end ∷ ends) count next before now within same all =
     let below = rest_below limit (lane + 1) most scripts ends all.1 before now (omega (arith, within)) all.4 in
-    let is : lane ≡ 0 = omega (arith, same, below) in
-    (all.0, all.1, all.2,
+    let is : lane ≡ 0 = omega (arith, same, below) in (
+      all.0,
+      all.1,
+      all.2,
       subst (λ n. ServesScript limit n sole fits script.items end.ending end.output all.0 before now) is all.3,
-      each_serves limit 1 most scripts ends all.1 before now (omega (arith, same)) (subst (λ n. AllServe limit (n + 1) most scripts ends all.1 before now) is all.4))
+      each_serves limit 1 most scripts ends all.1 before now (omega (arith, same)) (subst (λ n. AllServe limit (n + 1) most scripts ends all.1 before now) is all.4),
+    )

@@ -136,9 +136,13 @@ fn a_write_that_fails_ends_the_run(rt: HostRuntime) -> Result<(), Fail> {
 
 #[test]
 fn other_words_read_and_write_nothing(rt: HostRuntime) -> Result<(), Fail> {
-    let commands: [&[&str]; 8] = [
+    let commands: [&[&str]; 12] = [
         &[],
         &["walk"],
+        &["lanes", "0"],
+        &["lanes", "17"],
+        &["lanes", "2"],
+        &["serve", "127.0.0.1:0"],
         &["run", "extra"],
         &["Run"],
         &["run "],

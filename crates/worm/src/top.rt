@@ -1,8 +1,8 @@
 //! The program as a call over any source and sink.
-ghost use Rattle.std.specs.Prelude.{◌≡◌, ◌↔◌, None, map, string_bytes};
+ghost use Rattle.std.specs.Prelude.{◌≡◌, ◌↔◌, map, string_bytes};
 ghost use Rattle.command_line.specs.Commands.{command};
 ghost use Rattle.counts.specs.Counts.{Rose};
-ghost use Rattle.worm.specs.Commands.{Did, ReadsNothing};
+ghost use Rattle.worm.specs.Commands.{Did, IsUnknown, ReadsNothing};
 ghost use Rattle.worm.specs.Runs.{IsStatus};
 
 use crate::fills::run_fill;
@@ -33,7 +33,7 @@ pub fn worm<S: Source, K: Sink>(
     source: &mut S,
     sink: &mut K,
 ) -> Outcome
-    ensures words { (result.status ≡ 2) ↔ (command (map string_bytes words.now.items) ≡ None) }
+    ensures words { (result.status ≡ 2) ↔ IsUnknown (command (map string_bytes words.now.items)) }
     ensures untouched { result.status ≡ 2 → (source.new ≡ source.old) × (sink.new ≡ sink.old) }
     ensures unread { ReadsNothing (command (map string_bytes words.now.items)) → source.new ≡ source.old }
     ensures status { IsStatus result.status }
@@ -45,6 +45,8 @@ pub fn worm<S: Source, K: Sink>(
 {
     match read_command(words) {
         None => Outcome { status: 2 },
+        // Nothing carries these out yet.
+        Some(Command::Lanes { .. } | Command::Serve { .. }) => Outcome { status: 2 },
         Some(Command::Run { shape }) => run_script(alloc, &shape, source, sink),
         Some(
             Command::Fill {

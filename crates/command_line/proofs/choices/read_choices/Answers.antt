@@ -1,8 +1,8 @@
-use Rattle.std.proofs.Common.{map, string_bytes, sym, ap, ◌∙◌}
+use Rattle.std.proofs.Common.{[], map, string_bytes, refl, sym, ap, ◌∙◌}
 use Rattle.command_line.specs.Marks.{marks}
 use Rattle.command_line.specs.Reading.{mark_of, list_of, number_at, IsNoCommand}
 use Rattle.command_line.proofs.Cuts.{first_rest, marks_none}
-use Rattle.command_line.proofs.Outcomes.{outcome, outcome_end, takes_outcome, refused_outcome}
+use Rattle.command_line.proofs.Outcomes.{outcome, outcome_start, none_at, outcome_end, takes_outcome, refused_outcome}
 use Rattle.command_line.proofs.choices.read_choices.Goals as goal
 
 pub returns-in_err-choices : goal.returns-in_err-choices
@@ -17,6 +17,9 @@ returns-in_err-choices c =
     ∙ c.first_mark.ensures.first)
     ∙ refused_outcome before m c.in_err-choices.ensures (marks (map string_bytes c.first_mark.result.1.now)) word in
     rw c.from_residual.ensures no
+
+pub loop-rest-init : goal.loop-rest-init
+loop-rest-init c = λ word. outcome_start _ [] none_at refl (marks (map string_bytes c.args.words.now)) word
 
 pub loop-rest-preserved : goal.loop-rest-preserved
 loop-rest-preserved c =
