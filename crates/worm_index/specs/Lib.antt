@@ -3,3 +3,4 @@ pub mod Lanes
 pub mod Looks
 pub mod Calls
 pub mod Causes
+pub mod Opened

@@ -9,8 +9,13 @@
 //! see what both have seen, and [`end`] ends one into another.
 #![tactic(auto)]
 
+mod faults;
+mod gets;
 mod index;
 mod lanes;
+mod opens;
 
+pub use faults::GetFault;
+pub use gets::try_get;
 pub use index::Index;
 pub use lanes::{end, fork, lane, meet};
