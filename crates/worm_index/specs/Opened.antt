@@ -1,7 +1,7 @@
 -- How the leaf of a key is found and locked.
 use Rattle.std.specs.Prelude.{◌≡◌, ◌≢◌, ℕ, ◌≤◌, ◌<◌, List, length, true, false, None, Some}
 use Rattle.row_words.specs.declared.shape.Shape.{Shape}
-use Rattle.anchor_rules.specs.Anchors.{Anchors, Span, span, in_span, target}
+use Rattle.anchor_rules.specs.Anchors.{Anchors, AreAnchors, Span, span, in_span, target}
 use Rattle.map_model.specs.History.{after}
 use Rattle.leaf_spans.specs.Spread.{inside}
 use Rattle.board_rule.specs.declared.view.View.{View}
@@ -26,6 +26,7 @@ pub record IsSought (k : Shape) (key : List ℕ) (version leaf : ℕ) (A : Ancho
   pub noted : HasNote w version A
   pub target_is : leaf ≡ target A key
   pub near : leaf < k.leaves
+  pub are : AreAnchors A
   pub in_span : IsInSpan A leaf key
   pub knew : Knew VERSION v version
 
@@ -36,6 +37,7 @@ pub record IsOpened (k : Shape) (key : List ℕ) (version : ℕ) (A : Anchors) (
   pub last : IsLastNoted v w version A
   pub noted : HasNote w version A
   pub target_is : held.leaf ≡ target A key
+  pub are : AreAnchors A
   pub in_span : IsInSpan A held.leaf key
   pub is_held : IsHeld k w held
   pub dated : held.date ≤ version

@@ -1,13 +1,15 @@
 //! How the leaf of a key is found and locked.
 
-ghost use Rattle.std.specs.Prelude.{◌≡◌, ◌+◌, ◌≤◌, ℕ, true, None, IsSome, IsOk, IfOk, IfErr, OnErr};
+ghost use Rattle.std.specs.Prelude.{◌≡◌, ◌+◌, ◌<◌, ◌≤◌, ℕ, List, true, None, IsSome, IsOk, IfOk, IfErr, OnErr, slice_index};
 ghost use Rattle.key_bytes.specs.Fnv.{prefix_hash};
 ghost use Rattle.anchor_rules.specs.Anchors.{Anchors};
 ghost use Rattle.meta_trie.specs.Stands.{MostInBucket};
 ghost use Rattle.prefix_search.specs.Search.{seek_bound};
 ghost use Rattle.board_rule.specs.Passes.{lane_of, view, IsOf};
-ghost use Rattle.board_rule.specs.Steps.{Grew};
+ghost use Rattle.board_rule.specs.Views.{VERSION};
+ghost use Rattle.board_rule.specs.declared.view.View.{View};
 ghost use Rattle.twin_tables.specs.Pins.{PinMoved};
+ghost use Rattle.twin_tables.specs.Views.{OnlyLooks};
 ghost use Rattle.worm_index.specs.Idle.{IsIdle, IsSamePass};
 ghost use Rattle.worm_index.specs.Looks.{IsLastNoted};
 ghost use Rattle.worm_index.specs.Causes.{IsHindered};
@@ -66,6 +68,37 @@ fn search<L: Ledger>(
     })
 }
 
+// Locks the leaf of a key that was sought, if the version that was searched will do.
+fn lock_leaf<L: Ledger>(
+    pass: &mut Pass,
+    board: &Board,
+    place: Place,
+    steps: &mut Steps<L>,
+) -> Result<Opened, Again>
+    requires of { IsOf board.now pass.old }
+    requires lane { IsSome pass.old.lane }
+    requires idle { IsIdle (view pass.old) }
+    requires near { place.leaf < board.now.shape.leaves }
+    ensures of { IsOf board.now pass.new }
+    ensures lane { pass.new.lane ≡ pass.old.lane }
+    ensures opened { (key : List ℕ) (A : Anchors) (v : View) → IsIdle v → IsSought board.now.shape key place.version place.leaf A v (view pass.old) → IfOk result (λ opened. IsOpened board.now.shape key place.version A v (view pass.new) opened.held) }
+    ensures hash { IfOk result (λ opened. opened.hash ≡ place.hash) }
+    ensures hindered { (key : List ℕ) (A : Anchors) (v : View) → IsSought board.now.shape key place.version place.leaf A v (view pass.old) → IfErr result (λ again. IsHindered board.now.shape key (lane_of pass.old.lane) v (view pass.new) again) }
+    ensures looked { OnErr result (OnlyLooks (view pass.old) (view pass.new)) }
+    ensures sole { (view pass.old).sole ≡ true → slice_index (view pass.old).words VERSION ≤ place.version → IsOk result }
+    ensures steps { steps.new ≡ steps.old + 1 }
+    ensures notes { (view pass.new).notes ≡ (view pass.old).notes }
+{
+    let seen = see(pass, board, place.leaf);
+    match lock(pass, board, place.leaf, seen, place.version, steps) {
+        Ok(held) => Ok(Opened {
+            held,
+            hash: place.hash,
+        }),
+        Err(again) => Err(again),
+    }
+}
+
 /// Finds the leaf of a key, and locks it. It is refused where another lane is in the way, which it
 /// never is of a sole pass.
 pub(crate) fn open<L: Ledger>(
@@ -87,11 +120,8 @@ pub(crate) fn open<L: Ledger>(
     ensures sole { (view pass.old).sole ≡ true → IsOk result }
     ensures cost { (n : ℕ) (A : Anchors) → IsLastNoted (view pass.old) (view pass.new) n A → (c : ℕ) → MostInBucket board.now.shape A c → steps.new ≤ steps.old + (seek_bound A key.now c + 1) }
 {
-    let place = search(pass, board, key, steps)?;
-    let seen = see(pass, board, place.leaf);
-    let held = lock(pass, board, place.leaf, seen, place.version, steps)?;
-    Ok(Opened {
-        held,
-        hash: place.hash,
-    })
+    match search(pass, board, key, steps) {
+        Ok(place) => lock_leaf(pass, board, place, steps),
+        Err(again) => Err(again),
+    }
 }
