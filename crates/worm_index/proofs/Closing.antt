@@ -1,7 +1,6 @@
 -- How an unlock ends a call that opened a leaf.
-use Rattle.std.proofs.Common.{◌≡◌, ◌≢◌, ℕ, List, [], ◌∷◌, ◌++◌, length, get_or, set, Option, None, Some, true, refl, sym, ap, ◌∙◌, subst, get_or-set_other}
+use Rattle.std.proofs.Common.{◌≡◌, ℕ, List, [], ◌∷◌, ◌++◌, length, get_or, set, None, Some, refl, sym, ap, ◌∙◌, subst, get_or-set_other}
 use mathlib.Core.Logic.{dite}
-use mathlib.Core.Option.{some}
 use mathlib.Core.List.{IsPrefix}
 use native.Mathlib.Decide.{ℕ_discrete}
 use lib.ListN.{get_elem?}
@@ -16,7 +15,7 @@ use Rattle.map_model.proofs.Histories.{begins_trans, begins_push, own-push, asce
 use Rattle.board_rule.specs.declared.view.View.{View}
 use Rattle.board_rule.specs.Cells.{shown}
 use Rattle.board_rule.specs.Views.{held_at, has, entry}
-use Rattle.board_rule.specs.Steps.{Sat, Sees, Ends}
+use Rattle.board_rule.specs.Steps.{Sat, Ends}
 use Rattle.board_rule.proofs.Parts.{held_set}
 use Rattle.leaf_versions.specs.declared.held.Held.{Held}
 use Rattle.worm_index.specs.Idle.{IsIdle, IsSamePass}

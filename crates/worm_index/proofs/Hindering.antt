@@ -1,7 +1,6 @@
 -- Why a search or a lock was refused, from what each of the two tells.
-use Rattle.std.proofs.Common.{◌≡◌, ◌≢◌, ℕ, ◌+◌, ◌/◌, ◌%◌, ◌<◌, ◌≤◌, List, [], ◌∷◌, ◌++◌, length, ◌⊎◌, ⊎_elim, refl, sym, ap, ◌∙◌, subst, arith, length-append}
+use Rattle.std.proofs.Common.{◌≡◌, ℕ, ◌+◌, ◌%◌, ◌≤◌, List, [], ◌∷◌, ◌++◌, length, ⊎_elim, refl, sym, ap, ◌∙◌, subst, arith, length-append, append-nil}
 use mathlib.Core.Option.{some}
-use mathlib.Core.List.{IsPrefix}
 use lib.ListN.{get_elem?}
 use Rattle.atomic_table.proofs.Lists.{at_last, at_longer}
 use Rattle.row_words.specs.declared.shape.Shape.{Shape}
@@ -11,13 +10,13 @@ use Rattle.map_model.specs.declared.refusal.Again.TheVariants.{Locked, Changed, 
 use Rattle.board_rule.specs.declared.view.View.{View}
 use Rattle.board_rule.specs.Rule.{leaf_word}
 use Rattle.board_rule.specs.Views.{VERSION, PINS, looked}
-use Rattle.leaf_versions.specs.Refused.{IsRefused, FoundElse, NamesOther}
+use Rattle.board_rule.proofs.Growing.{grew_kept}
+use Rattle.leaf_versions.specs.Refused.{IsRefused, NamesOther}
 use Rattle.twin_tables.specs.Views.{OnlyLooks}
 use Rattle.twin_tables.specs.Lending.{looks_same}
-use Rattle.twin_tables.proofs.Viewing.{looked_only}
 use Rattle.twin_tables.specs.Pins.{PinMoved, pin_looks}
 use Rattle.worm_index.specs.Opened.{IsSought}
-use Rattle.worm_index.specs.Looks.{IsLookAt, Found, FoundTwo, IsLastNoted}
+use Rattle.worm_index.specs.Looks.{Found, FoundTwo}
 use Rattle.worm_index.specs.Causes.{IsSearched, IsHindered}
 use Rattle.worm_index.proofs.Notes.{look_at, last_moves}
 
@@ -92,6 +91,28 @@ module _ (k : Shape) (key : List ℕ) (version leaf lane seen : ℕ) (A : Anchor
   refused_hinders (Pinned table pins) r other = absurd r
   refused_hinders (Bin holder) r other = absurd r
   refused_hinders (Filled l count hard) r other = absurd r
+
+-- only a look came to a view
+pub looked_only : (v w : View) (word found : ℕ) → w ≡ looked word found v → OnlyLooks v w
+looked_only v w word found e = subst (OnlyLooks v) (sym e) (record {
+  same = record {
+    grew = grew_kept v (looked word found v) refl refl refl ((word, found) ∷ [], refl) ([], append-nil v.notes) (omega arith) (λ s. s);
+    sole = refl;
+    drawn = refl;
+    room = refl;
+    given = refl;
+    seen = refl;
+    met = refl;
+    ended = refl;
+    held = refl;
+  };
+  notes = refl;
+  pin = refl;
+  turn = refl;
+  current = refl;
+  spare = refl;
+  words = refl;
+})
 
 -- a lock that was refused left a view but for a look
 pub refused_only : (k : Shape) (leaf seen version : ℕ) (u w : View) (again : Again) → IsRefused k leaf seen version u w again → OnlyLooks u w

@@ -1,13 +1,13 @@
 -- The notes of a call, and its looks.
-use Rattle.std.proofs.Common.{◌≡◌, ℕ, zero, suc, ◌≤◌, ◌<◌, ◌+◌, List, [], ◌∷◌, ◌++◌, length, Bool, true, false, refl, sym, ap, ◌∙◌, subst, arith, append_assoc, length-append}
+use Rattle.std.proofs.Common.{◌≡◌, ℕ, suc, ◌+◌, List, [], ◌∷◌, ◌++◌, length, Bool, refl, sym, ap, ◌∙◌, arith, append_assoc, length-append}
 use mathlib.Core.Option.{some}
 use lib.ListN.{get_elem?}
-use Rattle.atomic_table.proofs.Lists.{at_last, at_longer}
+use Rattle.atomic_table.proofs.Lists.{at_last}
 use Rattle.anchor_rules.specs.Anchors.{Anchors}
 use Rattle.board_rule.specs.declared.view.View.{View}
 use Rattle.board_rule.specs.Notes.{Note, note_of}
 use Rattle.board_rule.specs.Steps.{HasNote}
-use Rattle.worm_index.specs.Looks.{IsLookAt, Found, IsLastNoted}
+use Rattle.worm_index.specs.Looks.{IsLookAt, IsLastNoted}
 
 -- the last elements of two lists that are the same are the same
 same_last : {A : Type 0} (a b : List A) (x y : A) → a ++ x ∷ [] ≡ b ++ y ∷ [] → x ≡ y

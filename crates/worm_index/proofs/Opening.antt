@@ -1,20 +1,18 @@
 -- How a search and a lock leave the view that opened a leaf.
-use Rattle.std.proofs.Common.{◌≡◌, ◌≢◌, ℕ, ◌+◌, ◌/◌, ◌%◌, ◌<◌, ◌≤◌, List, [], ◌∷◌, ◌++◌, length, get_or, set, Option, None, Some, true, false, refl, sym, ap, ◌∙◌, subst, arith, get_or-set_other, slice_index}
-use mathlib.Core.Option.{some}
+use Rattle.std.proofs.Common.{◌≡◌, ℕ, ◌+◌, List, get_or, None, false, sym, ap, ◌∙◌, subst, arith, get_or-set_other}
 use mathlib.Core.List.{IsPrefix}
 use lib.ListN.{get_elem?}
 use Rattle.row_words.specs.declared.shape.Shape.{Shape}
 use Rattle.map_model.specs.History.{Entry, own, after}
-use Rattle.anchor_rules.specs.Anchors.{Anchors, AreAnchors, span, target}
+use Rattle.anchor_rules.specs.Anchors.{Anchors, span, target}
 use Rattle.anchor_rules.proofs.Spans.{in_target}
 use Rattle.leaf_spans.specs.Spread.{inside}
 use Rattle.leaf_spans.proofs.Spreads.{target_live}
-use Rattle.meta_trie.specs.Stands.{StandsFor}
 use Rattle.meta_trie.proofs.LeafRows.{live_leaf}
 use Rattle.board_rule.specs.declared.view.View.{View}
 use Rattle.board_rule.specs.Cells.{shown, Holding}
 use Rattle.board_rule.specs.Rule.{leaf_word}
-use Rattle.board_rule.specs.Views.{VERSION, looked, held_at, has, the_holding}
+use Rattle.board_rule.specs.Views.{looked, has, the_holding}
 use Rattle.board_rule.specs.Steps.{Sees, HasNote, pinned_anchors, pinned_rows}
 use Rattle.leaf_versions.specs.declared.held.Held.{Held}
 use Rattle.leaf_versions.specs.Holding.{Took, taken_out}

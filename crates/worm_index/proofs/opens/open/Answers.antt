@@ -1,7 +1,5 @@
-use Rattle.std.proofs.Common.{ℕ, List, ap, ◌∙◌, sym, subst, None, ◌≡◌, ◌≤◌, ◌+◌, arith, IfErr, IfOk, OnErr, IsOk}
+use Rattle.std.proofs.Common.{sym, subst, arith, IfErr}
 use Rattle.std.proofs.lemmas.Result.{IfOk-weaker, on_err_weaker}
-use Rattle.anchor_rules.specs.Anchors.{Anchors}
-use Rattle.map_model.specs.declared.refusal.Again.{Again}
 use Rattle.board_rule.specs.Passes.{view, lane_of}
 use Rattle.worm_index.specs.Causes.{IsHindered}
 use Rattle.worm_index.proofs.Notes.{last_moves}

@@ -1,9 +1,8 @@
-use Rattle.std.proofs.Common.{rules, ◌≡◌, ◌+◌, ◌≤◌, ℕ, sym, ap, ◌∙◌, subst, arith}
+use Rattle.std.proofs.Common.{rules, ◌≡◌, ◌+◌, ◌≤◌, sym, ap, ◌∙◌, subst}
 use Rattle.row_words.specs.declared.shape.Shape.{Shape}
 use Rattle.anchor_rules.specs.Anchors.{Anchors}
 use Rattle.prefix_search.specs.Search.{seek_bound}
 use Rattle.meta_trie.specs.Stands.{MostInBucket}
-use Rattle.board_rule.specs.declared.view.View.{View}
 use Rattle.board_rule.specs.Passes.{view}
 use Rattle.board_rule.specs.Steps.{pinned_anchors}
 use Rattle.twin_tables.specs.Pins.{Pins}
