@@ -1,6 +1,8 @@
-//! Tests of servers: over a door in memory, and over TCP with a client in the same process.
+//! Tests of servers: over a door in memory, over one whose clients fail, and over TCP with a client in the same process.
 #![tactic(auto)]
 
+#[cfg(test)]
+mod failing_clients;
 #[cfg(test)]
 mod memory_doors;
 #[cfg(test)]

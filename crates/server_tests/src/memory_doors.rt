@@ -7,7 +7,11 @@ use std::alloc::{AllocError, Global};
 use std::sync::Wait;
 
 // A door of these clients, of whose calls some fail.
-fn door_of(alloc: Global, inputs: &[&[u8]], fails: &[u64]) -> Result<MemDoor, AllocError> {
+pub(crate) fn door_of(
+    alloc: Global,
+    inputs: &[&[u8]],
+    fails: &[u64],
+) -> Result<MemDoor, AllocError> {
     let mut clients = Vec::with_capacity(alloc, inputs.len())?;
     for input in inputs {
         if clients.push(input.to_vec(alloc)?).is_err() {
@@ -18,7 +22,7 @@ fn door_of(alloc: Global, inputs: &[&[u8]], fails: &[u64]) -> Result<MemDoor, Al
 }
 
 // Whether these were written, one for each closed connection.
-fn has_written(door: &MemDoor, want: &[&[u8]]) -> bool {
+pub(crate) fn has_written(door: &MemDoor, want: &[&[u8]]) -> bool {
     let outputs = door.outputs();
     outputs.len() == want.len()
         && outputs
