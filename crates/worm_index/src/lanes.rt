@@ -111,6 +111,7 @@ fn see_all(pass: &mut Pass, other: &mut Pass, index: &Index)
 
 /// Ends a lane: the other pass has then seen what both had, and has the room of the ended one but for
 /// a number that this had drawn and not given. It takes no memory and is never refused.
+#[tactic(auto, using(crate::proofs::Views::holds_none))]
 pub fn end(pass: Pass, into: &mut Pass, index: &Index)
     requires of { IsOf index.now.board pass × IsOf index.now.board into.old }
     requires lane { IsSome into.old.lane }

@@ -14,6 +14,8 @@ mod gets;
 mod index;
 mod lanes;
 mod opens;
+#[cfg(test)]
+mod tests;
 
 pub use faults::GetFault;
 pub use gets::try_get;
