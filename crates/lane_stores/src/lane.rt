@@ -68,6 +68,7 @@ impl<'a> SharedLane<'a> {
         ensures room { NotFull (refused_by result) }
         ensures alone { IsTrue self.old.alone → NotAgain (refused_by result) }
     {
+        // How many lanes there are bounds the holder's number.
         let _lanes = self.map.lanes;
         let refusal = Refusal::Again(Again::Turn {
             holder: (found - 1) as u32,
@@ -237,6 +238,7 @@ impl Lanes for SharedLane<'_> {
             refusals,
             last: _,
         } = self;
+        // And it bounds how many forks the two can make together.
         let _lanes = into.map.lanes;
         into.map.join(&mut into.seat, into.number, seat);
         into.next = into.next.max(next);

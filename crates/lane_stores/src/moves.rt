@@ -21,6 +21,7 @@ use std::marker::Brand;
 
 pub(crate) type Seat = atomic_table::Seat<PlainMap, View>;
 
+// Each call here is given the number of the seat's lane, some of them for their contracts alone.
 impl SharedMap {
     /// Takes the map and answers 0, or answers the number of the lane that has it plus one.
     pub(crate) fn take(&self, seat: &mut Seat, lane: u32) -> u64
