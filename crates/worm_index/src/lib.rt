@@ -3,10 +3,10 @@
 //!
 //! Two threads share an index so. [`Index::make`] answers the index and its first pass, and [`fork`]
 //! makes of one pass another, with a lane number of its own. Each thread takes a pass and a reference
-//! to the index, and calls [`try_get`], [`try_put`] and [`try_del`] as it likes. None of them waits:
-//! where another lane is in the way, a call answers so, and may be tried again. A pass sees its own
-//! calls, and those of other lanes that were answered before one of its own. [`meet`] lets two passes
-//! see what both have seen, and [`end`] ends one into another.
+//! to the index, and calls [`try_get`] as it likes. No call waits: where another lane is in the way it
+//! answers so, and may be tried again. A pass sees its own calls, and those of other lanes that were
+//! answered before one of its own. [`meet`] lets two passes see what both have seen, and [`end`] ends
+//! one into another.
 #![tactic(auto)]
 
 mod faults;
