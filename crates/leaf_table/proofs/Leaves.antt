@@ -22,12 +22,6 @@ empty_push [] l e all (suc n) = refl
 empty_push (x ∷ leaves) l e all zero = all zero
 empty_push (x ∷ leaves) l e all (suc n) = empty_push leaves l e (λ m. all (suc m)) n
 
--- one more element of a range
-pub take_push : {X : Type 0} → (xs : List X) (n : ℕ) (d : X) → n < length xs → take (n + 1) xs ≡ take n xs ++ get_or xs n d ∷ []
-take_push [] n d lt = absurd (omega (arith, lt))
-take_push (x ∷ xs) zero d lt = refl
-take_push (x ∷ xs) (suc n) d lt = simp unary_clauses (ap (λ ys. x ∷ ys) (simp unary_clauses at (take_push xs n d (omega (arith, lt)))))
-
 -- a leaf that is read in its range is the same with any default
 pub map_read : (leaves : List (LeafMap (List ℕ))) (leaf : ℕ) (d : LeafMap (List ℕ)) → leaf < length leaves → (get_or leaves leaf d).map ≡ map_at leaves leaf
 map_read [] leaf d lt = absurd (omega (arith, lt))

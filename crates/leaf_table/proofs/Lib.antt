@@ -3,7 +3,6 @@ pub mod ListedLeaves
 pub mod LiveLeaves
 pub mod Merging
 pub mod Overwritten
-pub mod PartEnds
 pub mod Readings
 pub mod Splitting
 pub mod Standing

@@ -1,19 +1,19 @@
 //! Parts of the map.
 
-ghost use Rattle.std.specs.Prelude.{◌≡◌, ◌≢◌, ◌-◌, ◌<◌, ◌≤◌, [], length, take, drop, IsTrue, IfOk, OnOk, OnErr, Option};
+ghost use Rattle.std.specs.Prelude.{◌≡◌, ◌≢◌, ◌<◌, ◌≤◌, [], length, IfOk, OnErr};
 ghost use Rattle.key_bytes.specs.Bound.{bound_cmp};
 ghost use Rattle.map_model.specs.Maps.{between};
 ghost use Rattle.row_words.specs.VecRows.{shape_of, words_of};
 ghost use Rattle.meta_trie.specs.Stands.{StandsFor, anchors_of};
 ghost use Rattle.prefix_search.specs.Search.{IsFollowed};
-ghost use Rattle.leaf_spans.specs.Ends.{leaf_from, lesser, part_end, end_bound};
+ghost use Rattle.leaf_spans.specs.Ends.{leaf_from, part_end};
 
 use crate::LeafTable;
-use key_bytes::{Bound, Bytes, Key};
-use leaf_store::Leaf;
+use key_bytes::Bound;
+use leaf_pages::{fill, lower_end};
 use map_model::Page;
 use prefix_search::{Located, locate_end};
-use row_words::{AnchorWords, VecRows};
+use row_words::VecRows;
 use std::alloc::{AllocError, Global};
 use std::cmp::Ordering;
 use std::marker::Brand;
@@ -54,70 +54,4 @@ fn locate_from<L: Ledger>(rows: &mut VecRows, from: &Bound, blank: Blank) -> Loc
 {
     let mut steps = Steps::<L>::new(blank);
     locate_end(rows, from, &mut steps)
-}
-
-// The key at an anchor that isn't empty.
-fn anchor_key(alloc: Global, anchor: &AnchorWords) -> Result<Key, AllocError>
-    ensures { IfOk result (λ key. key ≡ anchor.now) }
-{
-    let bytes = anchor.to_vec(alloc)?;
-    // Only memory can be wanting, since these are 1 to 255 bytes.
-    match Key::new(alloc, &bytes) {
-        Ok(key) => Ok(key),
-        Err(_) => Err(AllocError),
-    }
-}
-
-// The lower one of an end and an anchor, if there is one.
-fn lower_end(alloc: Global, next: Option<AnchorWords>, to: &Bound) -> Result<Bound, AllocError>
-    ensures { IfOk result (λ end. end ≡ lesser (end_bound next) to.now) }
-{
-    let end = match next {
-        Some(anchor) => Bound::At(anchor_key(alloc, &anchor)?),
-        None => Bound::High,
-    };
-    match end.order(to) {
-        Ordering::Less => Ok(end),
-        _ => to.copy(),
-    }
-}
-
-// Puts the pairs of a leaf between two ends into an empty page, or leaves it empty.
-fn fill(
-    leaf: &mut Leaf<Bytes>,
-    from: &Bound,
-    upto: &Bound,
-    page: &mut Page,
-) -> Result<(), AllocError>
-    requires { page.old.pairs ≡ [] }
-    ensures ok { OnOk result (page.new.pairs ≡ between leaf.old.map from.now upto.now) }
-    ensures cleared { OnErr result (page.new.pairs ≡ []) }
-    ensures map { leaf.new.map ≡ leaf.old.map }
-    ensures salt { leaf.new.salt ≡ leaf.old.salt }
-{
-    let (start, end) = leaf.pairs_between(from, upto)?;
-    push_pairs(leaf, start, end, page)
-}
-
-// Puts the pairs of a leaf from one place up to another into an empty page, or leaves it empty.
-fn push_pairs(
-    leaf: &Leaf<Bytes>,
-    start: usize,
-    end: usize,
-    page: &mut Page,
-) -> Result<(), AllocError>
-    requires empty { page.old.pairs ≡ [] }
-    requires ordered { IsTrue leaf.now.is_ordered }
-    requires in_range { end ≤ length leaf.now.map }
-    ensures ok { OnOk result (page.new.pairs ≡ take (end - start) (drop start leaf.now.map)) }
-    ensures cleared { OnErr result (page.new.pairs ≡ []) }
-{
-    for i in start..end {
-        let (key, value) = leaf.at(i);
-        if let Err(refused) = page.push(key.bytes(), value.get()) {
-            page.clear();
-            return Err(refused);
-        }
-    }
-    Ok(())
 }

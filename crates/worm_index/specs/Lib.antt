@@ -4,3 +4,5 @@ pub mod Looks
 pub mod Calls
 pub mod Causes
 pub mod Opened
+pub mod Parts
+pub mod Walks

@@ -69,7 +69,7 @@ fn search<L: Ledger>(
 }
 
 // Locks the leaf of a key that was sought, if the version that was searched will do.
-fn lock_leaf<L: Ledger>(
+pub(crate) fn lock_leaf<L: Ledger>(
     pass: &mut Pass,
     board: &Board,
     place: Place,

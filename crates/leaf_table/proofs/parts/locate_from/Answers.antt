@@ -1,6 +1,6 @@
 use Rattle.row_words.specs.VecRows.{shape_of, words_of}
 use Rattle.meta_trie.specs.Stands.{anchors_of}
-use Rattle.leaf_table.proofs.PartEnds.{located_from}
+use Rattle.leaf_pages.proofs.PartEnds.{located_from}
 use Rattle.leaf_table.proofs.parts.locate_from.Goals as goal
 
 pub returns-clause-leaf : goal.returns-clause-leaf

@@ -8,7 +8,7 @@ use Rattle.row_words.specs.VecRows.{shape_of, words_of}
 use Rattle.leaf_spans.specs.Ends.{part_end}
 use Rattle.leaf_table.proofs.LiveLeaves.{live_moved}
 use Rattle.leaf_spans.proofs.PartEnds.{part_end_within}
-use Rattle.leaf_table.proofs.PartEnds.{part_end_is}
+use Rattle.leaf_pages.proofs.PartEnds.{part_end_is}
 use Rattle.leaf_table.proofs.Written.{moved, room_moved, followed_place, same_written, part_found, part_few, part_above}
 use Rattle.leaf_table.proofs.table.LeafTable.part.Goals as goal
 

@@ -1,8 +1,8 @@
 use Rattle.std.proofs.Common.{◌≡◌, ◌+◌, ◌-◌, inl, ℕ, List, [], ◌∷◌, ◌++◌, length-drop, get_or, take, drop, arith, sym, ap, ◌∙◌}
 use Rattle.std.proofs.lemmas.List.{get_or-drop}
 use Rattle.map_model.specs.Maps.{Pairs}
-use Rattle.leaf_table.proofs.Leaves.{take_push}
-use Rattle.leaf_table.proofs.parts.push_pairs.Goals as goal
+use Rattle.leaf_pages.proofs.Taking.{take_push}
+use Rattle.leaf_pages.proofs.fills.push_pairs.Goals as goal
 
 pub loop-i-preserved : goal.loop-i-preserved
 loop-i-preserved c =

@@ -1,5 +1,5 @@
 use Rattle.std.proofs.Common.{◌≡◌, ◌≤◌, ◌-◌, ◌⊎◌, take, drop}
-use Rattle.leaf_table.proofs.parts.push_pairs.Given as goal
+use Rattle.leaf_pages.proofs.fills.push_pairs.Given as goal
 
 abbrev pub invariant-loop-i : goal.invariant-loop-i
 invariant-loop-i l = record {

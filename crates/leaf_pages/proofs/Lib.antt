@@ -1,0 +1,2 @@
+pub mod PartEnds
+mod Taking

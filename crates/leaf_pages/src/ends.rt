@@ -1,0 +1,35 @@
+//! Where the part ends.
+
+ghost use Rattle.std.specs.Prelude.{◌≡◌, IfOk, Option};
+ghost use Rattle.leaf_spans.specs.Ends.{lesser, end_bound};
+
+use key_bytes::{Bound, Key};
+use row_words::AnchorWords;
+use std::alloc::{AllocError, Global};
+use std::cmp::Ordering;
+
+// The key at an anchor that isn't empty.
+fn anchor_key(alloc: Global, anchor: &AnchorWords) -> Result<Key, AllocError>
+    ensures { IfOk result (λ key. key ≡ anchor.now) }
+{
+    let bytes = anchor.to_vec(alloc)?;
+    // Only memory can be wanting, since these are 1 to 255 bytes.
+    match Key::new(alloc, &bytes) {
+        Ok(key) => Ok(key),
+        Err(_) => Err(AllocError),
+    }
+}
+
+/// The lower one of an end and of an anchor, if there is one. It takes the memory of a key.
+pub fn lower_end(alloc: Global, next: Option<AnchorWords>, to: &Bound) -> Result<Bound, AllocError>
+    ensures { IfOk result (λ end. end ≡ lesser (end_bound next) to.now) }
+{
+    let end = match next {
+        Some(anchor) => Bound::At(anchor_key(alloc, &anchor)?),
+        None => Bound::High,
+    };
+    match end.order(to) {
+        Ordering::Less => Ok(end),
+        _ => to.copy(),
+    }
+}
