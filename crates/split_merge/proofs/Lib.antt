@@ -1,0 +1,10 @@
+mod Staying
+mod Holding
+mod Advancing
+mod Lent
+mod Splitting
+mod Merging
+mod Choosing
+mod Ending
+mod Results
+mod Starting
