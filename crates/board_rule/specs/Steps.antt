@@ -59,11 +59,12 @@ pub record FindsVersion (v : View) (found : ℕ) : Type 0 where
   pub current : (n : ℕ) (A : Anchors) → v.current ≡ Some (n, A) → found ≡ n
   pub bounded : found < 2 ^ 56
 
--- What the lanes given tell.
+-- What the lanes given tell: they are no fewer than any number of them that the view found or was told, and no entry is of another lane.
 pub record FindsGiven (k : Shape) (v : View) (found : ℕ) : Type 0 where
   pub aged : (x before : ℕ) → get_elem? v.looks x ≡ some (GIVEN, before) → before ≤ found
   pub given : v.given ≤ found
   pub few : found ≤ k.lanes
+  pub unborn : (n : ℕ) → found ≤ n → own n v.seen ≡ []
 
 -- What the turn tells: it names a lane or none, and where the view hasn't it another lane or none. A sole view that hasn't it finds none.
 pub record FindsTurn (v : View) (found : ℕ) : Type 0 where
