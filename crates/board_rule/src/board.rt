@@ -41,6 +41,8 @@ pub struct Pass {
     pub(crate) lane: Option<u32>,
     pub(crate) drawn: Option<u32>,
     pub(crate) room: u32,
+    // Where searches of the lane begin. No view speaks of it.
+    pub(crate) hint: u32,
     pub(crate) alloc: Global,
     ghost bare: { seat.me.1 ≡ [] },
     ghost laned: { seat.me.0.lane ≡ lane },
@@ -111,6 +113,21 @@ impl Pass {
         ensures { result ≡ self.now.drawn }
     {
         self.drawn
+    }
+
+    /// The number that [`Pass::set_hint`] kept last, 0 before: the usual length of the prefixes that
+    /// the lane's searches reach, in bytes.
+    pub fn hint(&self) -> u32
+        ensures { result ≡ self.now.hint }
+    {
+        self.hint
+    }
+
+    /// Keeps a number for the lane's next search. No other pass sees it.
+    pub fn set_hint(&mut self, hint: u32)
+        ensures { self.new ≡ record self.old { hint = hint } }
+    {
+        self.hint = hint;
     }
 
     /// The allocator that the board was made with.

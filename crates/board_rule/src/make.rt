@@ -87,6 +87,7 @@ impl Board {
         ensures of { IfOk result (λ r. IsOf r.0 r.1) }
         ensures shape { IfOk result (λ r. r.0.shape ≡ shape.now) }
         ensures lane { IfOk result (λ r. r.1.lane ≡ Some 0) }
+        ensures hint { IfOk result (λ r. r.1.hint ≡ 0) }
         ensures view { IfOk result (λ r. (words : List ℕ) × AreFirst shape.now words × (view r.1 ≡ view_at_start shape.now words)) }
     {
         let opening = opening(alloc, shape)?;
@@ -102,6 +103,7 @@ impl Board {
                     lane: Some(0),
                     drawn: None,
                     room: shape.lanes - 1,
+                    hint: 0,
                     alloc,
                 },
             )),
