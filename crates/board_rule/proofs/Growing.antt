@@ -20,7 +20,7 @@ use Rattle.board_rule.specs.Cells.{Content, Holding, Spot, at_home}
 use Rattle.board_rule.specs.Pins.{Pin, Spare, LagSpot}
 use Rattle.board_rule.specs.Views.{VERSION, TURN, GIVEN, PINS, looked, held_at, has, Deed, option_list, lanes_of, both_views}
 use Rattle.board_rule.specs.Rule.{leaf_word, table_at, row_count, place_of, lag_place, IsMet, Kept}
-use Rattle.board_rule.specs.Steps.{Sat, Grew, Looks, Locks, Gives, HasNote, InSpan, Unlocks, Grabs, Puts, Enrols, Joined, Meets, Notes, Turns, NoneAhead, SpareSettled, Unturns, Raises, current, anchors_now, Publishable, Publishes, Pinned, Checks, Unpinned, Clears, GrabsLag, PutsLag, Reads, kept_spare, Writes, HasSpare}
+use Rattle.board_rule.specs.Steps.{Sat, Grew, Looks, Locks, Gives, HasNote, InSpan, Unlocks, Grabs, Puts, Enrols, Joined, Meets, NoteAccounts, Notes, Turns, NoneAhead, SpareSettled, Unturns, Raises, current, anchors_now, Publishable, Publishes, Pinned, Checks, Unpinned, Clears, GrabsLag, PutsLag, Reads, kept_spare, Writes, HasSpare}
 use Rattle.board_rule.proofs.Histories.{begins_more}
 use Rattle.board_rule.proofs.Keeps.{with_grown}
 use Rattle.board_rule.proofs.Finding.{looks}
@@ -133,8 +133,8 @@ enrolling k n id m room none-drawn = with_grown k n id m GIVEN (λ x. (x + 1) % 
 pub meeting : (k : Shape) (n id : ℕ) (m : Sat) (word : ℕ) → Allows (Kept k) n id m word (λ x. x) (λ r x. Meets m r x × Grew m.0 x.0)
 meeting k n id m word = with_grown k n id m word (λ x. x) (Meets m) (meets k n id m word) (λ r x t. turned_to m x m.0 m.1 t.0 (grew_same m.0))
 
-pub version_loading : (k : Shape) (n id : ℕ) (m : Sat) → Allows (Kept k) n id m VERSION (λ x. x) (λ r x. Notes m r x × Grew m.0 x.0)
-version_loading k n id m = with_grown k n id m VERSION (λ x. x) (Notes m) (version_loads k n id m) (λ r x t. turned_to m x _ m.1 t.after (grew_kept m.0 _ refl refl refl ((VERSION, r) ∷ [], refl) (_, refl) (omega arith) (λ e. e)))
+pub version_loading : (k : Shape) (n id : ℕ) (m : Sat) → Allows (Kept k) n id m VERSION (λ x. x) (λ r x. (Notes m r x × NoteAccounts k m r x) × Grew m.0 x.0)
+version_loading k n id m = with_grown k n id m VERSION (λ x. x) (λ r x. Notes m r x × NoteAccounts k m r x) (version_loads k n id m) (λ r x t. turned_to m x _ m.1 t.0.after (grew_kept m.0 _ refl refl refl ((VERSION, r) ∷ [], refl) (_, refl) (omega arith) (λ e. e)))
 
 pub taking_turn : (k : Shape) (n id : ℕ) (m : Sat) (lane : ℕ) → m.0.lane ≡ Some lane → Allows (Kept k) n id m TURN (λ x. either (eqb x 0) (lane + 1) x) (λ r x. Turns lane m r x × Grew m.0 x.0)
 taking_turn k n id m lane mine = with_grown k n id m TURN (λ x. either (eqb x 0) (lane + 1) x) (Turns lane m) (takes_turn k n id m lane mine)

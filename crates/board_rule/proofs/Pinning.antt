@@ -29,7 +29,7 @@ use Rattle.board_rule.proofs.Lasting.{Rises, rises_kept, lasts_rise, lasts_look,
 use Rattle.board_rule.proofs.Keeps.{St, board, rebuild_all, dates, unmoved, knew, numbers_same, lone_self, bit_le}
 use Rattle.board_rule.proofs.Finding.{finds_version}
 use Rattle.board_rule.proofs.Soles.{sole_total}
-use Rattle.board_rule.proofs.Turning.{notes_more, turn_of}
+use Rattle.board_rule.proofs.Turning.{notes_more, turn_of, accounts}
 
 -- the words hold both tables whole, each as long as the shape says
 pub wide_rows : (k : Shape) (words : List ℕ) (t : ℕ) → length words ≡ word_count k → t < 2 → length (rows_of k words t) ≡ row_count k
@@ -239,9 +239,9 @@ checks k n id m p has s o wide at _ =
           refl refl o.tables)
           (lasts_look k s.words v.looks v.given v.lane v.drawn v.ended VERSION x (look_now k s.words VERSION) (o.lasting id v at))
           (λ sole. (sole, λ e. e))),
-      record { anchors = o.now; rows = rows; hit = λ _. (refl, stands, wide_rows k s.words p.table o.placed.wide (omega arith)); miss = λ ne. absurd (ne hit); knew = knew k s o id 0 v at; finds = finds_version k s o id v at },
+      record { anchors = o.now; rows = rows; hit = λ _. (refl, stands, wide_rows k s.words p.table o.placed.wide (omega arith)); miss = λ ne. absurd (ne hit); counted = λ _. accounts k s o id v at; knew = knew k s o id 0 v at; finds = finds_version k s o id v at },
     ))
-    (λ miss. (looked VERSION x v, keeps, tt, unmoved k s o id 0 v at, record { anchors = []; rows = []; hit = λ e. absurd (miss e); miss = λ _. refl; knew = knew k s o id 0 v at; finds = finds_version k s o id v at }))
+    (λ miss. (looked VERSION x v, keeps, tt, unmoved k s o id 0 v at, record { anchors = []; rows = []; hit = λ e. absurd (miss e); miss = λ _. refl; counted = λ e. absurd (miss e); knew = knew k s o id 0 v at; finds = finds_version k s o id v at }))
   where
     some_pin : (q r : Pin) → Some q ≡ Some r → q ≡ r
     some_pin q r e = cc

@@ -1,5 +1,5 @@
 -- The rule is kept where the version is loaded, the turn taken or given, and a held leaf's date raised.
-use Rattle.std.proofs.Common.{◌≡◌, ℕ, ◌+◌, ◌*◌, ◌/◌, ◌<◌, ◌≤◌, eqb, cond, List, [], ◌∷◌, ◌++◌, length, get_or, set, sym, refl, ap, ◌∙◌, subst, inr, ⊎_elim, arith, ◌^◌, length-set, get_or-set_other, get_or-set_same, Option, Some, None, Bool, true, false, true≢false, eq-eqb, ne_eqb, eqb-true, IsSome}
+use Rattle.std.proofs.Common.{◌≡◌, ℕ, ◌+◌, ◌*◌, ◌/◌, ◌<◌, ◌≤◌, eqb, cond, List, [], ◌∷◌, ◌++◌, length, get_or, set, sym, refl, ap, ◌∙◌, subst, inr, ⊎_elim, arith, ◌^◌, length-append, length-set, get_or-set_other, get_or-set_same, Option, Some, None, Bool, true, false, true≢false, eq-eqb, ne_eqb, eqb-true, IsSome}
 use mathlib.Core.Logic.{dite}
 use mathlib.Core.Option.{some, some-injective, some-ne-none}
 use mathlib.Core.Option as maybe
@@ -18,14 +18,15 @@ use Rattle.board_rule.specs.Pins.{Lagging, behind, clearing, spare_at}
 use Rattle.board_rule.specs.Cells.{Holding, Cell, free, taken, word_of}
 use Rattle.board_rule.specs.Views.{TURN, GIVEN, VERSION, looked, held_at, noted, has_taken, has_given, worded, raised, has}
 use Rattle.board_rule.specs.Rule.{leaf_word, home_of, CellOk, Placed, SeatBelow, IsCounted, LagIs, expected, Turn, turn_word, has_turn, Dated, NoteOk, NotesOk, CurrentOk, Numbers, Kept}
-use Rattle.board_rule.specs.Steps.{Sat, current, anchors_now, note_or, NoneAhead, Settled, SpareSettled, Notes, Turns, Unturns, Raises}
+use Rattle.board_rule.specs.Steps.{Sat, current, anchors_now, note_or, NoneAhead, Settled, SpareSettled, Accounts, NoteAccounts, Notes, Turns, Unturns, Raises}
 use Rattle.board_rule.proofs.Sums.{there, at_below, each_set}
 use Rattle.board_rule.proofs.Tabled.{agrees, agrees_set, tables_keep, given_tables}
 use Rattle.board_rule.proofs.Parts.{placed_move, home_stays, mine_same, mine_other, holds_mine, holds_else, held_cell, mine_held}
 use Rattle.board_rule.proofs.Parts.{placed_low}
 use Rattle.board_rule.proofs.Lasting.{rises_same, rises_kept, rises_leaf, lasts_rise, lasts_look, look_now, look_else}
 use Rattle.board_rule.proofs.Finding.{finds_version, finds_turn}
-use Rattle.board_rule.proofs.Keeps.{board, Goes, dates, rebuild_all, unmoved, knew, numbers_same, low_word, high_word, shares_same}
+use Rattle.board_rule.proofs.Locking.{sees}
+use Rattle.board_rule.proofs.Keeps.{St, board, Goes, dates, rebuild_all, unmoved, knew, numbers_same, low_word, high_word, shares_same}
 
 pub note_is : (a b : ℕ × Anchors) → Some a ≡ Some b → a ≡ b
 note_is a b e = cc
@@ -39,8 +40,22 @@ current_noted : (front : List Note) (b : Bool) (version : ℕ) (now A : Anchors)
 current_noted front true version now A n e = let q = note_is (version, now) (n, A) e in (ap (λ z. z.0) (sym q), ap (λ z. z.1) (sym q), refl, (front, false, λ i. front ++ note_of (q i).0 (q i).1 false ∷ []))
 current_noted front false version now A n e = absurd (cc)
 
+-- a sole view has seen the whole history, and that accounts for the version
+pub accounts : (k : Shape) (s : St) (o : Kept k s) (id : ℕ) (v : View) → get_elem? s.views id ≡ some v → Accounts k v (get_or s.words 0 0) o.now
+accounts k s o id v at sole = subst (λ h. IsCounted k (get_or s.words 0 0) o.now h) ((sees k s o id v at).sole sole) o.counted
+
+-- the last elements of two lists that are the same are the same
+same_last : {A : Type 0} (a b : List A) (x y : A) → a ++ x ∷ [] ≡ b ++ y ∷ [] → x ≡ y
+same_last [] [] x y e = cc
+same_last [] (z ∷ b) x y e = let n = ap length e in let m = length-append b (y ∷ []) in absurd (omega arith)
+same_last (z ∷ a) [] x y e = let n = ap length e in let m = length-append a (x ∷ []) in absurd (omega arith)
+same_last (z ∷ a) (t ∷ b) x y e = same_last a b x y (cc)
+
+note_accounts : (k : Shape) (v : View) (n : ℕ) (now : Anchors) → Accounts k v n now → (A : Anchors) → IsLastNote (v.notes ++ note_of n now false ∷ []) n A → Accounts k v n A
+note_accounts k v n now all A last = subst (Accounts k v n) (ap (λ (x : Note). x.anchors) (same_last v.notes last.0 (note_of n now false) (note_of n A last.1) last.2)) all
+
 -- a load of the version notes it, with the anchors as they are
-pub version_loads : (k : Shape) (n id : ℕ) (m : Sat) → Allows (Kept k) n id m VERSION (λ x. x) (Notes m)
+pub version_loads : (k : Shape) (n id : ℕ) (m : Sat) → Allows (Kept k) n id m VERSION (λ x. x) (λ r x. Notes m r x × NoteAccounts k m r x)
 version_loads k n id m s o wide at _ =
     let v : View = m.0 in let version : ℕ = get_or s.words 0 0 in let w : View = noted version o.now v in (
       w,
@@ -52,7 +67,7 @@ version_loads k n id m s o wide at _ =
           (notes_more version version o.now (dates o.cells) v.notes false (omega arith) o.tables.published.anchors (o.notes id v at)) (λ u h. h)
           (λ x A e. current_noted v.notes v.turn version o.now A x e) (λ j u _ _ h. h)
           o.seats (numbers_same k _ s.views id v w at refl refl refl refl o.numbers) (rises_same k s.words) (lasts_look k s.words v.looks v.given v.lane v.drawn v.ended VERSION version (look_now k s.words VERSION) (o.lasting id v at)) (λ sole. (sole, λ e. e))),
-      record { anchors = o.now; after = refl; are = o.tables.published.anchors; knew = knew k s o id 0 v at; finds = finds_version k s o id v at },
+      (record { anchors = o.now; after = refl; are = o.tables.published.anchors; knew = knew k s o id 0 v at; finds = finds_version k s o id v at }, note_accounts k v version o.now (accounts k s o id v at)),
     )
 
 no_turn_word : (t : Turn) → turn_word t ≡ 0 → t ≡ None

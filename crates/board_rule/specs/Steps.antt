@@ -17,9 +17,9 @@ use Rattle.meta_trie.specs.declared.lags.Lag.{Lag}
 use Rattle.meta_trie.specs.declared.lags.Lag.TheVariants.{Same, Split, Merge}
 use Rattle.board_rule.specs.declared.leaf.Place.{Place}
 use Rattle.board_rule.specs.declared.leaf.Place.TheVariants.{Home, Out, Lag as LagHome}
-use Rattle.board_rule.specs.Notes.{Note, IsNoted}
+use Rattle.board_rule.specs.Notes.{Note, IsNoted, IsLastNote}
 use Rattle.meta_trie.specs.Lags.{turned, CanTurn}
-use Rattle.board_rule.specs.Rule.{row_count, leaf_word, table_at, IsMet}
+use Rattle.board_rule.specs.Rule.{row_count, leaf_word, table_at, IsCounted, IsMet}
 use Rattle.board_rule.specs.Pins.{Pin, Spare, LagSpot, lag_home, lag_away, lag_moving}
 use Rattle.board_rule.specs.Cells.{Map, Content, shown, Holding, Spot, at_home, away, moving}
 use Rattle.board_rule.specs.Views.{VERSION, TURN, GIVEN, PINS, newly_held, held_at, noted, has_taken, has_given, raised, published, cleared, written, lagged, has, looked, locked, unlocked, given_back, holding, spotted, enrolled, unchecked, checked, unpinned, Deed, entry}
@@ -155,6 +155,14 @@ pub record Joined (v : View) : Type 0 where
 abbrev pub Meets : Sat → ℕ → Sat → Type 0
 Meets m found n = (n ≡ m) × Joined m.0
 
+-- what a sole view has seen accounts for the version, its anchors and the sizes of its leaves
+abbrev pub Accounts : Shape → View → ℕ → Anchors → Type 0
+Accounts k v version A = v.sole ≡ true → IsCounted k version A v.seen
+
+-- for the anchors that a load noted of the version
+abbrev pub NoteAccounts : Shape → Sat → ℕ → Sat → Type 0
+NoteAccounts k m found n = (A : Anchors) → IsLastNote n.0.notes found A → Accounts k m.0 found A
+
 -- the version is noted with its anchors
 pub record Notes (m : Sat) (found : ℕ) (n : Sat) : Type 0 where
   pub anchors : Anchors
@@ -267,6 +275,7 @@ pub record Checks (k : Shape) (p : Pin) (m : Sat) (found : ℕ) (n : Sat) : Type
   pub rows : List ℕ
   pub hit : found ≡ p.version → (n ≡ (checked p anchors rows found m.0, m.1)) × StandsFor k rows anchors × (length rows ≡ row_count k)
   pub miss : found ≢ p.version → n ≡ (looked VERSION found m.0, m.1)
+  pub counted : found ≡ p.version → Accounts k m.0 found anchors
   pub knew : Knew VERSION m.0 found
   pub finds : FindsVersion m.0 found
 
