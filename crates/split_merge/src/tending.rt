@@ -1,6 +1,6 @@
 //! How a leaf is tended: split, or merged with a neighbour, or let be.
 
-ghost use Rattle.std.specs.Prelude.{◌≡◌, ◌+◌, ◌<◌, ◌≤◌, ◌^◌, ◌∷◌, ◌++◌, ℕ, List, [], true, false, None, IsSome, IfOk, IfErr, OnErr};
+ghost use Rattle.std.specs.Prelude.{◌≡◌, ◌+◌, ◌<◌, ◌≤◌, ◌^◌, ◌∷◌, ◌++◌, ◌⊎◌, ℕ, List, [], true, false, None, IsSome, IfOk, IfErr, OnErr};
 ghost use Rattle.anchor_rules.specs.Anchors.{Anchors, target};
 ghost use Rattle.meta_trie.specs.Stands.{MostInBucket};
 ghost use Rattle.prefix_search.specs.Search.{bound};
@@ -61,6 +61,7 @@ pub fn tend<L: Ledger>(
     ensures steps { (n : ℕ) (A : Anchors) (more : List Note) → (view pass.new).notes ≡ (view pass.old).notes ++ note_of n A false ∷ more
         → (c : ℕ) → MostInBucket board.now.shape A c → steps.new ≤ steps.old + (bound A key.now c + 3) }
     ensures none { (view pass.new).notes ≡ (view pass.old).notes → steps.new ≡ steps.old }
+    ensures noted { ((view pass.new).notes ≡ (view pass.old).notes) ⊎ ((n : ℕ) × (A : Anchors) × (more : List Note) × ((view pass.new).notes ≡ (view pass.old).notes ++ note_of n A false ∷ more)) }
 {
     let room = room_for_half(pass.alloc(), board.shape())?;
     let mut turn = take_turn(pass, board)?;

@@ -1,4 +1,4 @@
-use Rattle.std.proofs.Common.{◌+◌, ◌≤◌, None, get_or, refl, ◌∙◌, sym, ap, subst}
+use Rattle.std.proofs.Common.{◌+◌, ◌≤◌, None, get_or, inl, inr, refl, ◌∙◌, sym, ap, subst}
 use Rattle.anchor_rules.specs.Anchors.{target}
 use Rattle.meta_trie.specs.Stands.{MostInBucket}
 use Rattle.prefix_search.specs.Search.{bound}
@@ -8,7 +8,7 @@ use Rattle.split_merge.specs.Faults.{IsLeftSo}
 use Rattle.split_merge.proofs.Holding.{looked_stays}
 use Rattle.split_merge.proofs.Results.{if_err, if_err_on}
 use Rattle.split_merge.proofs.Staying.{goes_same, goes_grew, prefix_same}
-use Rattle.split_merge.proofs.Ending.{none_ahead, taken_noted, turned_away, whole_goes, whole_idle, whole_grew, whole_ok, whole_fault, whole_anchors, whole_noted, more_notes}
+use Rattle.split_merge.proofs.Ending.{none_ahead, taken_noted, turned_away, whole_goes, whole_idle, whole_grew, whole_ok, whole_fault, whole_anchors, whole_noted, more_notes, loaded}
 use Rattle.split_merge.proofs.tending.tend.Goals as goal
 
 pub tend_in_turn-tended-requires-clause-uncleared : goal.tend_in_turn-tended-requires-clause-uncleared
@@ -137,6 +137,28 @@ returns-clause-none g c e =
     let r = c.tend_in_turn-tended.result in
     let y = (more_notes k key lane n v u w x takes c.in_ok-turn.ensures.has done.finished c.give_turn.ensures.view r (anchors_now u) (target (anchors_now u) key) done.done done.unnoted) in
     absurd (whole_noted k key lane n v u w x takes c.in_ok-turn.ensures.has done.finished c.give_turn.ensures.view y.0 y.1 e)
+
+pub returns-clause-noted : goal.returns-clause-noted
+returns-clause-noted g c =
+    let k = c.args.board.now.shape in
+    let n = c.in_ok-turn.turn in
+    let key = c.args.key.now in
+    let lane = lane_of c.args.pass.now.lane in
+    let v = view c.args.pass.now in
+    let u = view c.take_turn.new.pass in
+    let w = view c.tend_in_turn-tended.new.pass in
+    let x = view c.give_turn.new.pass in
+    let takes = c.in_ok-turn.ensures.taken in
+    let done = c.tend_in_turn-tended.ensures in
+    let r = c.tend_in_turn-tended.result in
+    let y = (more_notes k key lane n v u w x takes c.in_ok-turn.ensures.has done.finished c.give_turn.ensures.view r (anchors_now u) (target (anchors_now u) key) done.done done.unnoted) in
+    inr (n, takes.anchors, y.0, (loaded k key lane n v u w x takes c.in_ok-turn.ensures.has done.finished c.give_turn.ensures.view y.0 y.1).notes)
+
+pub returns-in_err-room-clause-noted : goal.returns-in_err-room-clause-noted
+returns-in_err-room-clause-noted g c = inl refl
+
+pub returns-in_err-turn-clause-noted : goal.returns-in_err-turn-clause-noted
+returns-in_err-turn-clause-noted g c = inl (ap (λ y. y.notes) c.in_err-turn.ensures.refused.look)
 
 pub returns-in_err-room-clause-goes : goal.returns-in_err-room-clause-goes
 returns-in_err-room-clause-goes g c = goes_same (view c.args.pass.now)
