@@ -32,7 +32,7 @@ pub last_moves : (v u w : View) (n : ℕ) (A : Anchors) → w.notes ≡ u.notes 
 last_moves v u w n A e a = (a.0, a.1, e ∙ a.2)
 
 -- what stands behind a list
-at_back : {A : Type 0} (l m : List A) (j : ℕ) → get_elem? (l ++ m) (length l + j) ≡ get_elem? m j
+pub at_back : {A : Type 0} (l m : List A) (j : ℕ) → get_elem? (l ++ m) (length l + j) ≡ get_elem? m j
 at_back [] m j = let e : 0 + j ≡ j = omega arith in ap (λ i. get_elem? m i) e
 at_back (x ∷ l) m j = let e : length (x ∷ l) + j ≡ suc (length l + j) = omega arith in ap (λ i. get_elem? (x ∷ (l ++ m)) i) e ∙ at_back l m j
 

@@ -1,6 +1,6 @@
 //! A walk over a range of keys, a part at a time.
 
-ghost use Rattle.std.specs.Prelude.{◌≡◌, ◌≢◌, ◌+◌, ◌≤◌, ◌↔◌, ◌∷◌, ◌++◌, ℕ, List, [], true, IsSome, IfOk, IfErr, OnErr, length};
+ghost use Rattle.std.specs.Prelude.{◌≡◌, ◌+◌, ◌≤◌, ◌↔◌, ◌∷◌, ◌++◌, ℕ, List, [], true, IsSome, IfOk, IfErr, OnErr, length};
 ghost use Rattle.std.specs.Bool.{OnTrue, OnFalse};
 ghost use Rattle.key_bytes.specs.Bound.{bound_cmp};
 ghost use Rattle.key_bytes.specs.declared.bound.Bound.{Bound as End};

@@ -1,6 +1,6 @@
 //! How a lane gets a pass, how two passes meet, and how one ends.
 
-ghost use Rattle.std.specs.Prelude.{◌≡◌, ◌+◌, ◌<◌, ◌≤◌, ◌↔◌, ◌⊎◌, ℕ, false, Some, None, IsSome, IsOk, IfOk, IfErr, OnErr};
+ghost use Rattle.std.specs.Prelude.{◌≡◌, ◌+◌, ◌<◌, ◌≤◌, ◌↔◌, ℕ, Some, None, IsSome, IsOk, IfOk, IfErr, OnErr};
 ghost use mathlib.Core.List.{IsPrefix};
 ghost use Rattle.board_rule.specs.Rule.{IsMet};
 ghost use Rattle.board_rule.specs.Views.{kept_half, new_half, lanes_of, both_views};

@@ -1,6 +1,7 @@
 //! How the leaf of a key is found and locked.
 
 ghost use Rattle.std.specs.Prelude.{◌≡◌, ◌+◌, ◌<◌, ◌≤◌, ℕ, List, true, None, IsSome, IsOk, IfOk, IfErr, OnErr, slice_index};
+ghost use mathlib.Core.List.{IsPrefix};
 ghost use Rattle.key_bytes.specs.Fnv.{prefix_hash};
 ghost use Rattle.anchor_rules.specs.Anchors.{Anchors};
 ghost use Rattle.meta_trie.specs.Stands.{MostInBucket};
@@ -11,7 +12,7 @@ ghost use Rattle.board_rule.specs.declared.view.View.{View};
 ghost use Rattle.twin_tables.specs.Pins.{PinMoved};
 ghost use Rattle.twin_tables.specs.Views.{OnlyLooks};
 ghost use Rattle.worm_index.specs.Idle.{IsIdle, IsSamePass};
-ghost use Rattle.worm_index.specs.Looks.{IsLastNoted};
+ghost use Rattle.worm_index.specs.Looks.{IsLastNoted, SearchesWithin};
 ghost use Rattle.worm_index.specs.Causes.{IsHindered};
 ghost use Rattle.worm_index.specs.Opened.{IsSought, IsOpened};
 
@@ -55,6 +56,7 @@ fn search<L: Ledger>(
     ensures moved { IfErr result (λ again. PinMoved again (view pass.old) (view pass.new)) }
     ensures sole { (view pass.old).sole ≡ true → IsOk result }
     ensures cost { (n : ℕ) (A : Anchors) → IsLastNoted (view pass.old) (view pass.new) n A → (c : ℕ) → MostInBucket board.now.shape A c → steps.new ≤ steps.old + seek_bound A key.now c }
+    ensures within { (b : ℕ) → SearchesWithin board.now.shape key.now (view pass.old) (view pass.new) b → steps.new ≤ steps.old + b }
 {
     let mut hint = Hint::new();
     let mut pinned = pin(pass, board)?;
@@ -119,6 +121,8 @@ pub(crate) fn open<L: Ledger>(
     ensures same { OnErr result (IsSamePass (view pass.old) (view pass.new) × ((view pass.new).seen ≡ (view pass.old).seen)) }
     ensures sole { (view pass.old).sole ≡ true → IsOk result }
     ensures cost { (n : ℕ) (A : Anchors) → IsLastNoted (view pass.old) (view pass.new) n A → (c : ℕ) → MostInBucket board.now.shape A c → steps.new ≤ steps.old + (seek_bound A key.now c + 1) }
+    ensures notes { IsPrefix (view pass.old).notes (view pass.new).notes }
+    ensures within { (b : ℕ) → SearchesWithin board.now.shape key.now (view pass.old) (view pass.new) b → steps.new ≤ steps.old + (b + 1) }
 {
     match search(pass, board, key, steps) {
         Ok(place) => lock_leaf(pass, board, place, steps),
