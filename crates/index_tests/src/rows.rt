@@ -6,14 +6,14 @@ ghost use Rattle.worm_index.specs.Idle.{IsIdle};
 
 use board_rule::Pass;
 use key_bytes::{Bound, Key};
-use map_model::Page;
+use map_model::{Full, Page, TableFull};
 use row_words::Shape;
 use std::alloc::Global;
 use std::cmp::Ordering;
 use std::marker::Brand;
 use std::sync::ledger::{Blank, Ledger};
 use steps::Steps;
-use worm_index::{Index, try_del, try_part, try_put};
+use worm_index::{Index, PutFault, try_del, try_part, try_put};
 
 const SMALL: Shape = Shape {
     leaves: 4,
@@ -89,7 +89,53 @@ fn splits_and_merges(alloc: Global) -> bool {
     keys_come_and_go::<Brand>(alloc, &mut pass, &index, Blank::new(1))
 }
 
+// A table of one leaf has no room for a split: so the leaf takes as many keys as it may have, and then
+// only values of keys that it has.
+fn leaf_is_crowded<L: Ledger>(alloc: Global, pass: &mut Pass, index: &Index, blank: Blank) -> bool
+    requires of { IsOf index.now.board pass.old }
+    requires lane { IsSome pass.old.lane }
+    requires idle { IsIdle (view pass.old) }
+    requires name { blank.name ≡ L.name }
+    requires parts { blank.parts ≡ L.parts }
+    requires some { 0 < blank.parts }
+{
+    let mut steps = Steps::<L>::new(blank);
+    let (Ok(a), Ok(b), Ok(c), Ok(d)) = (
+        Key::new(alloc, b"a"),
+        Key::new(alloc, b"b"),
+        Key::new(alloc, b"c"),
+        Key::new(alloc, b"d"),
+    ) else {
+        return false;
+    };
+    let first = try_put(pass, index, &a, b"1", &mut steps) == Ok(true);
+    let second = try_put(pass, index, &b, b"2", &mut steps) == Ok(true);
+    let third = try_put(pass, index, &c, b"3", &mut steps) == Ok(true);
+    let fourth = try_put(pass, index, &d, b"4", &mut steps) == Err(PutFault::Full(CROWDED));
+    let again = try_put(pass, index, &b, b"5", &mut steps) == Ok(false);
+    first && second && third && fourth && again
+}
+
+const CROWDED: Full = Full::Crowded {
+    count: 3,
+    hard: 3,
+    why: TableFull::Leaves { used: 1, cap: 1 },
+};
+
+fn one_leaf_is_crowded(alloc: Global) -> bool {
+    let lone = Shape {
+        leaves: 1,
+        hard: 3,
+        ..SMALL
+    };
+    let Ok((index, mut pass)) = Index::make(alloc, &lone) else {
+        return false;
+    };
+    leaf_is_crowded::<Brand>(alloc, &mut pass, &index, Blank::new(1))
+}
+
 #[test]
 fn keys_of_a_small_index(rt: HostRuntime) {
     assert!(&rt; splits_and_merges(rt.alloc()));
+    assert!(&rt; one_leaf_is_crowded(rt.alloc()));
 }

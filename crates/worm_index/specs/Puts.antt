@@ -15,7 +15,8 @@ use Rattle.map_model.specs.declared.refusal.Full.{Full as Fullness}
 use Rattle.map_model.specs.declared.refusal.Full.TheVariants.{Crowded as TooFull}
 use Rattle.map_model.specs.declared.refusal.TableFull.{TableFull}
 use Rattle.split_merge.specs.declared.answers.Tended.{Tended}
-use Rattle.split_merge.specs.declared.answers.TendFault.TheVariants.{Again as Hindered, Table as NoRoom}
+use Rattle.split_merge.specs.declared.answers.TendFault.{TendFault}
+use Rattle.split_merge.specs.declared.answers.TendFault.TheVariants.{Again as Hindered, Table as NoRoom, NoMemory as NoneLeft}
 use Rattle.split_merge.specs.Tending.{Tends}
 use Rattle.split_merge.specs.Faults.{IsTendFault}
 use Rattle.board_rule.specs.declared.view.View.{View}
@@ -57,6 +58,12 @@ IsHinderedBehind k key lane v w again = IsTendFault k key lane v w (Hindered aga
 -- the tending of a crowded leaf answered that the table has no room for a split
 abbrev pub IsFullBehind : Shape → List ℕ → ℕ → View → View → Fullness → Type 0
 IsFullBehind k key lane v w full = (why : TableFull) × (full ≡ TooFull k.hard k.hard why) × IsTendFault k key lane v w (NoRoom why)
+
+-- what the refusal of a tending makes of the put
+abbrev pub IsRefusal : ℕ → TendFault → PutFault → Type 0
+IsRefusal hard (Hindered again) fault = fault ≡ Again again
+IsRefusal hard (NoRoom why) fault = fault ≡ Full (TooFull hard hard why)
+IsRefusal hard NoneLeft fault = fault ≡ NoMemory
 
 -- a put was refused behind a crowded leaf, which it had tended
 abbrev pub IsFaultBehind : Shape → List ℕ → ℕ → View → View → PutFault → Type 0

@@ -10,7 +10,7 @@ ghost use Rattle.worm_index.specs.declared.faults.PutFault.TheVariants.{ValueToo
 ghost use Rattle.worm_index.specs.Idle.{IsIdle};
 ghost use Rattle.worm_index.specs.Looks.{SearchesWithin};
 ghost use Rattle.worm_index.specs.Calls.{IsAnswered, IsUnanswered};
-ghost use Rattle.worm_index.specs.Puts.{IsFaultBehind, IsPutFault, IsSecondFault, IsSoleFault, IsUnbarred, WasTried};
+ghost use Rattle.worm_index.specs.Puts.{IsFaultBehind, IsPutFault, IsRefusal, IsSecondFault, IsSoleFault, IsUnbarred, WasTried};
 
 use crate::faults::PutFault;
 use crate::index::Index;
@@ -163,16 +163,24 @@ fn put_tended<L: Ledger>(
     ensures notes { IsPrefix (view pass.old).notes (view pass.new).notes }
     ensures within { (b : ℕ) → SearchesWithin board.now.shape key.now (view pass.old) (view pass.new) b → steps.new ≤ steps.old + (2 * b + 4) }
 {
-    let hard = board.shape().hard;
     match tend(pass, board, key, steps) {
         Ok(_) => put_again(pass, board, key, value, item, steps),
-        Err(TendFault::Table(why)) => Err(PutFault::Full(Full::Crowded {
+        Err(fault) => Err(refusal(fault, board.shape().hard)),
+    }
+}
+
+// What the refusal of the tending of a crowded leaf makes of the put.
+fn refusal(fault: TendFault, hard: u32) -> PutFault
+    ensures { IsRefusal hard fault result }
+{
+    match fault {
+        TendFault::Again(again) => PutFault::Again(again),
+        TendFault::Table(why) => PutFault::Full(Full::Crowded {
             count: hard,
             hard,
             why,
-        })),
-        Err(TendFault::Again(again)) => Err(PutFault::Again(again)),
-        Err(TendFault::NoMemory) => Err(PutFault::NoMemory),
+        }),
+        TendFault::NoMemory => PutFault::NoMemory,
     }
 }
 

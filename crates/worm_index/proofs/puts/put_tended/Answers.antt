@@ -1,15 +1,13 @@
-use Rattle.std.proofs.Common.{IfOk, IfErr, OnErr, inl, refl, ap, ◌∙◌, subst, arith}
+use Rattle.std.proofs.Common.{IfOk, IfErr, OnErr, refl, ap, ◌∙◌, subst, arith}
 use Rattle.map_model.specs.Calls.{Put}
 use Rattle.map_model.specs.Ordered.{was_put}
-use Rattle.map_model.specs.declared.refusal.Full.TheVariants.{Crowded as TooFull}
 use Rattle.row_words.specs.declared.shape.Shape.{Shape}
-use Rattle.split_merge.specs.Faults.{IsNotAgain, IsTendFault}
 use Rattle.board_rule.specs.Passes.{lane_of, view}
 use Rattle.board_rule.proofs.Turning.{lane_is}
 use Rattle.worm_index.specs.Calls.{IsAnswered, IsUnanswered}
 use Rattle.worm_index.specs.Puts.{IsSecondFault}
 use Rattle.worm_index.proofs.Going.{from_rest, goes_unanswered, notes_same, notes_then, tended_within, to_rest, within_part}
-use Rattle.worm_index.proofs.Putting.{put_answered, put_unanswered, second_fault}
+use Rattle.worm_index.proofs.Putting.{put_answered, put_unanswered, refused_behind, refused_sole, second_fault}
 use Rattle.worm_index.proofs.puts.put_tended.Goals as goal
 
 pub tend-requires-clause-idle : goal.tend-requires-clause-idle
@@ -67,59 +65,27 @@ returns-in-Ok-clause-within g c b within =
     let two = c.put_again.ensures.within b (within_part k key v u w w b c.tend.ensures.grew.notes (notes_same w w refl) within) in
     omega (arith, one, two)
 
-pub returns-in-Err-Table-clause-idle : goal.returns-in-Err-Table-clause-idle
-returns-in-Err-Table-clause-idle g c = from_rest (view c.tend.new.pass) c.tend.ensures.idle
-
-pub returns-in-Err-Table-clause-unanswered : goal.returns-in-Err-Table-clause-unanswered
-returns-in-Err-Table-clause-unanswered g c = goes_unanswered (lane_of c.args.pass.now.lane) (view c.args.pass.now) (view c.tend.new.pass) (c.args.pass.now.laned ∙ lane_is c.args.pass.now.lane c.requires.lane) c.tend.ensures.goes
-
-pub returns-in-Err-Table-clause-cause : goal.returns-in-Err-Table-clause-cause
-returns-in-Err-Table-clause-cause g c = let hard = ap (λ (s : Shape). s.hard) c.shape.ensures in (c.in-Err-Table.why, (λ i. TooFull (hard i) (hard i) c.in-Err-Table.why), subst (IsTendFault c.args.board.now.shape c.args.key.now (lane_of c.args.pass.now.lane) (view c.args.pass.now) (view c.tend.new.pass)) c.in-Err-Table.field-0-is c.in-Err-Table.ensures.fault)
-
-pub returns-in-Err-Table-clause-notes : goal.returns-in-Err-Table-clause-notes
-returns-in-Err-Table-clause-notes g c = c.tend.ensures.grew.notes
-
-pub returns-in-Err-Table-clause-within : goal.returns-in-Err-Table-clause-within
-returns-in-Err-Table-clause-within g c b within =
-    let one = tended_within c.args.board.now.shape c.args.key.now (view c.args.pass.now) (view c.tend.new.pass) b c.args.steps.now c.tend.new.steps c.tend.ensures.noted c.tend.ensures.steps c.tend.ensures.none within in
-    omega (arith, one)
-
-pub returns-in-Err-Again-clause-idle : goal.returns-in-Err-Again-clause-idle
-returns-in-Err-Again-clause-idle g c = from_rest (view c.tend.new.pass) c.tend.ensures.idle
-
-pub returns-in-Err-Again-clause-unanswered : goal.returns-in-Err-Again-clause-unanswered
-returns-in-Err-Again-clause-unanswered g c = goes_unanswered (lane_of c.args.pass.now.lane) (view c.args.pass.now) (view c.tend.new.pass) (c.args.pass.now.laned ∙ lane_is c.args.pass.now.lane c.requires.lane) c.tend.ensures.goes
-
-pub returns-in-Err-Again-clause-cause : goal.returns-in-Err-Again-clause-cause
-returns-in-Err-Again-clause-cause g c = inl (subst (IsTendFault c.args.board.now.shape c.args.key.now (lane_of c.args.pass.now.lane) (view c.args.pass.now) (view c.tend.new.pass)) c.in-Err-Again.field-0-is c.in-Err-Again.ensures.fault)
-
-pub returns-in-Err-Again-clause-notes : goal.returns-in-Err-Again-clause-notes
-returns-in-Err-Again-clause-notes g c = c.tend.ensures.grew.notes
-
-pub returns-in-Err-Again-clause-within : goal.returns-in-Err-Again-clause-within
-returns-in-Err-Again-clause-within g c b within =
-    let one = tended_within c.args.board.now.shape c.args.key.now (view c.args.pass.now) (view c.tend.new.pass) b c.args.steps.now c.tend.new.steps c.tend.ensures.noted c.tend.ensures.steps c.tend.ensures.none within in
-    omega (arith, one)
-
-pub returns-clause-idle : goal.returns-clause-idle
-returns-clause-idle g c = from_rest (view c.tend.new.pass) c.tend.ensures.idle
-
-pub returns-clause-unanswered : goal.returns-clause-unanswered
-returns-clause-unanswered g c = goes_unanswered (lane_of c.args.pass.now.lane) (view c.args.pass.now) (view c.tend.new.pass) (c.args.pass.now.laned ∙ lane_is c.args.pass.now.lane c.requires.lane) c.tend.ensures.goes
-
-pub returns-clause-cause : goal.returns-clause-cause
-returns-clause-cause g c = tt
-
-pub returns-clause-notes : goal.returns-clause-notes
-returns-clause-notes g c = c.tend.ensures.grew.notes
-
-pub returns-clause-within : goal.returns-clause-within
-returns-clause-within g c b within =
-    let one = tended_within c.args.board.now.shape c.args.key.now (view c.args.pass.now) (view c.tend.new.pass) b c.args.steps.now c.tend.new.steps c.tend.ensures.noted c.tend.ensures.steps c.tend.ensures.none within in
-    omega (arith, one)
-
 pub returns-in-Ok-clause-sole : goal.returns-in-Ok-clause-sole
 returns-in-Ok-clause-sole g c sole = c.put_again.ensures.sole (c.tend.ensures.goes.sole ∙ sole)
 
-pub returns-in-Err-Again-clause-sole : goal.returns-in-Err-Again-clause-sole
-returns-in-Err-Again-clause-sole g c sole = absurd (subst IsNotAgain c.in-Err-Again.field-0-is (c.in-Err-Again.ensures.sole sole))
+pub returns-in-Err-clause-idle : goal.returns-in-Err-clause-idle
+returns-in-Err-clause-idle g c = from_rest (view c.tend.new.pass) c.tend.ensures.idle
+
+pub returns-in-Err-clause-unanswered : goal.returns-in-Err-clause-unanswered
+returns-in-Err-clause-unanswered g c = goes_unanswered (lane_of c.args.pass.now.lane) (view c.args.pass.now) (view c.tend.new.pass) (c.args.pass.now.laned ∙ lane_is c.args.pass.now.lane c.requires.lane) c.tend.ensures.goes
+
+pub returns-in-Err-clause-cause : goal.returns-in-Err-clause-cause
+returns-in-Err-clause-cause g c =
+    refused_behind c.args.board.now.shape c.args.key.now (lane_of c.args.pass.now.lane) c.shape.result.now.hard (view c.args.pass.now) (view c.tend.new.pass) (ap (λ (s : Shape). s.hard) c.shape.ensures) c.in-Err.fault c.refusal.result c.refusal.ensures c.in-Err.ensures.fault
+
+pub returns-in-Err-clause-sole : goal.returns-in-Err-clause-sole
+returns-in-Err-clause-sole g c sole =
+    refused_sole c.args.board.now.shape c.args.key.now (lane_of c.args.pass.now.lane) c.shape.result.now.hard (view c.args.pass.now) (view c.tend.new.pass) (ap (λ (s : Shape). s.hard) c.shape.ensures) c.in-Err.fault c.refusal.result c.refusal.ensures (c.in-Err.ensures.sole sole)
+
+pub returns-in-Err-clause-notes : goal.returns-in-Err-clause-notes
+returns-in-Err-clause-notes g c = c.tend.ensures.grew.notes
+
+pub returns-in-Err-clause-within : goal.returns-in-Err-clause-within
+returns-in-Err-clause-within g c b within =
+    let one = tended_within c.args.board.now.shape c.args.key.now (view c.args.pass.now) (view c.tend.new.pass) b c.args.steps.now c.tend.new.steps c.tend.ensures.noted c.tend.ensures.steps c.tend.ensures.none within in
+    omega (arith, one)
