@@ -6,14 +6,15 @@ ghost use Rattle.worm_index.specs.Idle.{IsIdle};
 
 use board_rule::Pass;
 use key_bytes::{Bound, Key};
-use map_model::{Full, Page, TableFull};
+use map_model::{Again, Full, Page, TableFull};
 use row_words::Shape;
 use std::alloc::Global;
 use std::cmp::Ordering;
 use std::marker::Brand;
 use std::sync::ledger::{Blank, Ledger};
 use steps::Steps;
-use worm_index::{Index, PutFault, try_del, try_part, try_put};
+use twin_tables::{give_turn, take_turn};
+use worm_index::{Index, PutFault, fork, try_del, try_part, try_put};
 
 const SMALL: Shape = Shape {
     leaves: 4,
@@ -89,9 +90,15 @@ fn splits_and_merges(alloc: Global) -> bool {
     keys_come_and_go::<Brand>(alloc, &mut pass, &index, Blank::new(1))
 }
 
-// A table of one leaf has no room for a split: so the leaf takes as many keys as it may have, and then
-// only values of keys that it has.
-fn leaf_is_crowded<L: Ledger>(alloc: Global, pass: &mut Pass, index: &Index, blank: Blank) -> bool
+// A leaf that can't be split takes as many keys as it may have, and then only values of keys that it
+// has.
+fn leaf_is_crowded<L: Ledger>(
+    alloc: Global,
+    pass: &mut Pass,
+    index: &Index,
+    want: PutFault,
+    blank: Blank,
+) -> bool
     requires of { IsOf index.now.board pass.old }
     requires lane { IsSome pass.old.lane }
     requires idle { IsIdle (view pass.old) }
@@ -111,17 +118,12 @@ fn leaf_is_crowded<L: Ledger>(alloc: Global, pass: &mut Pass, index: &Index, bla
     let first = try_put(pass, index, &a, b"1", &mut steps) == Ok(true);
     let second = try_put(pass, index, &b, b"2", &mut steps) == Ok(true);
     let third = try_put(pass, index, &c, b"3", &mut steps) == Ok(true);
-    let fourth = try_put(pass, index, &d, b"4", &mut steps) == Err(PutFault::Full(CROWDED));
+    let fourth = try_put(pass, index, &d, b"4", &mut steps) == Err(want);
     let again = try_put(pass, index, &b, b"5", &mut steps) == Ok(false);
     first && second && third && fourth && again
 }
 
-const CROWDED: Full = Full::Crowded {
-    count: 3,
-    hard: 3,
-    why: TableFull::Leaves { used: 1, cap: 1 },
-};
-
+// A table of one leaf has no room for a split.
 fn one_leaf_is_crowded(alloc: Global) -> bool {
     let lone = Shape {
         leaves: 1,
@@ -131,11 +133,35 @@ fn one_leaf_is_crowded(alloc: Global) -> bool {
     let Ok((index, mut pass)) = Index::make(alloc, &lone) else {
         return false;
     };
-    leaf_is_crowded::<Brand>(alloc, &mut pass, &index, Blank::new(1))
+    let want = PutFault::Full(Full::Crowded {
+        count: 3,
+        hard: 3,
+        why: TableFull::Leaves { used: 1, cap: 1 },
+    });
+    leaf_is_crowded::<Brand>(alloc, &mut pass, &index, want, Blank::new(1))
+}
+
+// A lane that has the turn keeps another from splitting.
+fn turn_keeps_a_leaf_crowded(alloc: Global) -> bool {
+    let few = Shape { hard: 3, ..SMALL };
+    let Ok((index, mut first)) = Index::make(alloc, &few) else {
+        return false;
+    };
+    let Ok(mut second) = fork(&mut first, alloc, &index) else {
+        return false;
+    };
+    let Ok(turn) = take_turn(&mut second, index.board()) else {
+        return false;
+    };
+    let want = PutFault::Again(Again::Turn { holder: 1 });
+    let crowded = leaf_is_crowded::<Brand>(alloc, &mut first, &index, want, Blank::new(1));
+    give_turn(&mut second, index.board(), turn);
+    crowded
 }
 
 #[test]
 fn keys_of_a_small_index(rt: HostRuntime) {
     assert!(&rt; splits_and_merges(rt.alloc()));
     assert!(&rt; one_leaf_is_crowded(rt.alloc()));
+    assert!(&rt; turn_keeps_a_leaf_crowded(rt.alloc()));
 }
