@@ -3,6 +3,20 @@
 #![tactic(auto)]
 
 #[cfg(test)]
+mod board_lanes;
+#[cfg(test)]
+mod held;
+#[cfg(test)]
+mod keys;
+#[cfg(test)]
+mod lanes;
+#[cfg(test)]
+mod passes;
+#[cfg(test)]
 mod rows;
+#[cfg(test)]
+mod splits;
+#[cfg(test)]
+mod turns;
 #[cfg(test)]
 mod walks;
