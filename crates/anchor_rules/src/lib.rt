@@ -4,8 +4,6 @@
 
 mod anchors;
 mod laws;
-#[cfg(test)]
-mod tests;
 
 pub use anchors::Anchors;
 pub use laws::{changed_spans, closed_apart, search_ends};

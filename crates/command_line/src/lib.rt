@@ -7,8 +7,6 @@ mod field;
 mod laws;
 mod mark;
 mod number;
-#[cfg(test)]
-mod tests;
 mod verb;
 
 pub use command::{

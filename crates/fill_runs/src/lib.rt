@@ -5,8 +5,6 @@ mod fills;
 mod laws;
 mod summary;
 mod tally;
-#[cfg(test)]
-mod tests;
 mod words;
 
 pub use fills::{FillEnd, fill};

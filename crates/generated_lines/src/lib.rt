@@ -4,7 +4,5 @@
 mod digits;
 mod generated;
 mod line;
-#[cfg(test)]
-mod tests;
 
 pub use generated::Generated;

@@ -8,8 +8,6 @@ mod common;
 mod fnv;
 mod key;
 mod limits;
-#[cfg(test)]
-mod tests;
 
 pub use bound::Bound;
 pub use bytes::Bytes;

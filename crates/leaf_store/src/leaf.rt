@@ -442,6 +442,3 @@ fn leaf_is_send<V: Send>() {
 }
 
 fn is_send<T: Send>() {}
-
-#[cfg(test)]
-mod tests;

@@ -8,8 +8,6 @@ mod merges;
 mod parts;
 mod splits;
 mod table;
-#[cfg(test)]
-mod tests;
 mod writes;
 
 pub use answers::{Neighbours, Place, SplitFault};

@@ -14,8 +14,6 @@ mod reply_line;
 mod request;
 mod scan;
 mod scan_end;
-#[cfg(test)]
-mod tests;
 mod value;
 mod words;
 

@@ -8,8 +8,6 @@ mod cut;
 mod limits;
 mod lines;
 mod pieces;
-#[cfg(test)]
-mod tests;
 
 pub use limits::{LINE_ROOM, LONGEST_LINE, MOST_INPUT};
 pub use lines::{Event, Lines, Taken, Whole};

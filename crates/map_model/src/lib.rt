@@ -12,6 +12,3 @@ pub use ordered::Ordered;
 pub use page::Page;
 pub use plain::{MOST_PAIRS, PlainMap};
 pub use refusal::{Again, ForkFault, Full, Refusal, TableFull};
-
-#[cfg(test)]
-mod tests;

@@ -189,6 +189,3 @@ fn add_checked<R: RowsMut, L: Ledger>(
     lay_row(rows, left, anchor, leaf, next);
     grow(rows, anchor, leaf, front, back, steps);
 }
-
-#[cfg(test)]
-mod tests;

@@ -160,6 +160,3 @@ fn drop_row<R: RowsMut>(rows: &mut R, left: u32, leaf: u32, next: u32, len: usiz
     set_longest(rows, len);
     count_out(rows);
 }
-
-#[cfg(test)]
-mod tests;

@@ -10,8 +10,6 @@ mod plan;
 mod sink;
 mod source;
 mod stop;
-#[cfg(test)]
-mod tests;
 
 pub use door::Door;
 pub use gate::{Gate, OpenGate};

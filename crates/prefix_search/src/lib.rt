@@ -11,8 +11,6 @@ mod locates;
 mod longests;
 mod middles;
 mod roots;
-#[cfg(test)]
-mod tests;
 
 pub use answers::{Located, Longest, Sought};
 pub use ends::locate_end;

@@ -136,25 +136,3 @@ fn byte_or_zero(bytes: &[u8], i: usize) -> u8
 {
     if i < bytes.len() { bytes[i] } else { 0 }
 }
-
-#[cfg(test)]
-mod tests {
-    use super::*;
-    use std::test::Fail;
-
-    #[test]
-    fn packs_bytes(rt: HostRuntime) -> Result<(), Fail> {
-        assert_eq!(rt; packed_word(b"Josephine", 0), 0x6e69_6870_6573_6f4a);
-        assert_eq!(rt; packed_word(b"Josephine", 1), 0x65);
-        assert_eq!(rt; packed_word(b"Josephine", 2), 0);
-        let anchor = AnchorWords::new(b"Josephine");
-        assert!(rt; !anchor.is_empty());
-        assert_eq!(rt; anchor.len(), 9);
-        assert_eq!(rt; anchor.byte(8), b'e');
-        assert_eq!(rt;
-            anchor.to_vec(rt.alloc())?.as_slice(),
-            b"Josephine".as_slice()
-        );
-        Ok(())
-    }
-}

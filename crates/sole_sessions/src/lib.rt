@@ -12,9 +12,6 @@ use outside::{Sink, Source};
 use session::{Bounded, SessionEnd, serve};
 use std::alloc::Global;
 
-#[cfg(test)]
-mod tests;
-
 /// Serves as `session::serve` does, over a new store that is the only lane. No call is made again, since no other
 /// lane can be in the way.
 pub fn serve_sole<O: Ordered, S: Source, K: Sink>(

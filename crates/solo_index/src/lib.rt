@@ -7,6 +7,3 @@ mod tending;
 
 pub use solo::Solo;
 pub use tending::{Put, Taken, Tended};
-
-#[cfg(test)]
-mod tests;

@@ -4,8 +4,6 @@
 
 mod ends;
 mod outgoing;
-#[cfg(test)]
-mod tests;
 
 pub use ends::{StdSink, StdSource};
 pub use outgoing::{BUFFER, Outgoing};

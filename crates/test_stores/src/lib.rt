@@ -7,6 +7,3 @@ mod walks;
 
 pub use refusing::Refusing;
 pub use walks::{put_then_get, walk};
-
-#[cfg(test)]
-mod tests;

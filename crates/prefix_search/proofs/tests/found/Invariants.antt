@@ -1,4 +1,0 @@
-use Rattle.prefix_search.proofs.tests.found.Given as goal
-
-abbrev pub ghosts-search : goal.ghosts-search
-ghosts-search a = record { name = a.blank.name; parts = a.blank.parts }
