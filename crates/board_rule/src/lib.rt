@@ -12,8 +12,6 @@ mod opening;
 mod pin_steps;
 mod rule;
 mod spare_steps;
-#[cfg(test)]
-mod tests;
 mod turn_steps;
 mod view;
 mod words;

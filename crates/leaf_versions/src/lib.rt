@@ -5,8 +5,6 @@
 mod held;
 mod leaf_calls;
 mod no_entry;
-#[cfg(test)]
-mod tests;
 
 pub use held::Held;
 pub use leaf_calls::{lock, raise, see, unlock};

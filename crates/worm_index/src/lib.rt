@@ -19,8 +19,6 @@ mod opens;
 mod parts;
 mod puts;
 mod stores;
-#[cfg(test)]
-mod tests;
 mod tries;
 
 pub use cursor::{Cursor, parts_of_a_walk};

@@ -1,4 +1,0 @@
-use Rattle.twin_tables.proofs.tests.find.Given as goal
-
-abbrev pub ghosts-find_counting : goal.ghosts-find_counting
-ghosts-find_counting a = record { name = a.blank.name; parts = a.blank.parts }

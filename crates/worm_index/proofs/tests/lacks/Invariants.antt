@@ -1,4 +1,0 @@
-use Rattle.worm_index.proofs.tests.lacks.Given as goal
-
-abbrev pub ghosts-lacks_counting : goal.ghosts-lacks_counting
-ghosts-lacks_counting a = record { name = a.blank.name; parts = a.blank.parts }
