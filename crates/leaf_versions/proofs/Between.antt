@@ -1,18 +1,18 @@
 -- From the views between the steps of a call to what the call tells.
-use Rattle.std.proofs.Common.{◌≡◌, ℕ, eqb, cond, eq-eqb, ◌+◌, ◌/◌, ◌%◌, ◌<◌, ◌≤◌, List, [], ◌∷◌, ◌++◌, length, set, Option, Some, None, sym, refl, ap, ◌∙◌, subst, inl, ⊎_elim, arith}
+use Rattle.std.proofs.Common.{◌≡◌, ℕ, ◌+◌, ◌/◌, ◌%◌, ◌<◌, ◌≤◌, List, [], ◌∷◌, ◌++◌, length, set, Option, Some, None, sym, refl, ap, ◌∙◌, subst, inl, ⊎_elim, arith}
 use mathlib.Core.Option.{some}
 use lib.ListN.{get_elem?}
-use Rattle.atomic_table.proofs.Lists.{at_last, at_longer, at_snoc}
+use Rattle.atomic_table.proofs.Lists.{at_last, at_snoc}
 use Rattle.row_words.specs.declared.shape.Shape.{Shape}
 use Rattle.map_model.specs.History.{Entry, after as history_map}
 use Rattle.anchor_rules.specs.Anchors.{Anchors, span}
 use Rattle.leaf_spans.specs.Spread.{inside}
 use Rattle.board_rule.specs.declared.view.View.{View}
-use Rattle.board_rule.specs.Notes.{note_of, IsNoted}
+use Rattle.board_rule.specs.Notes.{IsNoted}
 use Rattle.board_rule.specs.Cells.{Content, shown, Holding, Spot, at_home, away}
 use Rattle.board_rule.specs.Rule.{leaf_word}
-use Rattle.board_rule.specs.Views.{VERSION, looked, later, last_found, held_at, holding, spotted, worded, has, the_holding, content, content_of, HasInside, HasAway, newly_held, locked, raised, given_back, unlocked, Deed, entry}
-use Rattle.board_rule.specs.Steps.{Sat, Grew, Sees, Knew, FindsLeaf, Ties, Locked, Gives, Entered, Ends, HasNote, InSpan, Fresh}
+use Rattle.board_rule.specs.Views.{VERSION, looked, held_at, holding, spotted, worded, has, the_holding, content, content_of, HasInside, HasAway, newly_held, locked, raised, given_back, unlocked, Deed, entry}
+use Rattle.board_rule.specs.Steps.{Sat, Sees, Knew, FindsLeaf, Ties, Locked, Gives, Entered, Ends, HasNote, Fresh}
 use Rattle.board_rule.proofs.Parts.{held_set, set_twice}
 use Rattle.leaf_versions.specs.declared.held.Held.{Held}
 use Rattle.leaf_versions.specs.Holding.{IsHeld, taken_out, held_out, Took}
@@ -25,11 +25,6 @@ has_is v leaf h e = let is : has v leaf ≡ h = ap the_holding e in (e ∙ ap So
 -- after a move of its content
 pub moved_is : (v w : View) (leaf : ℕ) (h : Holding) (spot : Spot) → held_at v leaf ≡ Some h → w ≡ holding leaf (Some (spotted spot (has v leaf))) v → held_at w leaf ≡ Some (spotted spot h)
 moved_is v w leaf h spot e is = ap (λ x. held_at x leaf) is ∙ (held_set v.held leaf h (Some (spotted spot (has v leaf))) e ∙ ap (λ x. Some (spotted spot x)) (ap the_holding e))
-
--- the last look at a word found what it found
-pub last_look : (word found : ℕ) (looks : List (ℕ × ℕ)) → last_found word (looks ++ (word, found) ∷ []) ≡ Some found
-last_look word found [] = ap (λ b. cond b (Some found) None) (eq-eqb word word refl)
-last_look word found (x ∷ xs) = ap (λ o. later o (cond (eqb x.0 word) (Some x.1) None)) (last_look word found xs)
 
 -- right after a look at a leaf's word the view bears it out
 pub still_seen : (k : Shape) (leaf word seen : ℕ) (v w : View) → leaf < k.leaves → word ≡ leaf_word k leaf → w ≡ looked word seen v → Ties k word v seen → StillSeen k leaf w seen
@@ -93,18 +88,9 @@ took k leaf seen searched lane m n w held near small free known hit out leaf-is 
       salt = ap (λ (c : Content). c.salt) same ∙ hit.salt;
     }
 
--- a view that grew has the notes that it had
-pub noted_on : (v w : View) (n : ℕ) (A : Anchors) → Grew v w → HasNote v n A → HasNote w n A
-noted_on v w n A grew noted = (noted.0, noted.1, ap (λ l. get_elem? l noted.0) (sym grew.notes.1) ∙ at_longer v.notes grew.notes.0 noted.0 (note_of n A noted.1) noted.2)
-
 -- a lock leaves all notes
 pub took_note : (k : Shape) (leaf seen searched lane : ℕ) (v w : View) (held : Held) (n : ℕ) (A : Anchors) → Took k leaf seen searched lane v w held → HasNote v n A → HasNote w n A
 took_note k leaf seen searched lane v w held n A t noted = subst (λ l. IsNoted l n A) (sym (ap (λ (x : View). x.notes) t.after)) noted
-
--- and a leaf may be unlocked by the note by which it was locked
-pub fresh_took : (k : Shape) (leaf seen searched lane : ℕ) (v w : View) (held : Held) (A : Anchors) (deed : Deed) → Took k leaf seen searched lane v w held → HasNote v searched A → InSpan A held.leaf deed → Fresh w held.leaf deed
-fresh_took k leaf seen searched lane v w held A deed t noted lies =
-    (searched, A, took_note k leaf seen searched lane v w held searched A t noted, (let z = t.is_held.dated in let y = t.this.1 in let x = t.known in omega arith), lies)
 
 -- a content that was moved in stands for what it did outside
 pub inside_is : (v w : View) (leaf : ℕ) (m : Content) → HasAway v leaf → w ≡ holding leaf (Some (spotted (at_home m) (has v leaf))) v → HasInside w leaf × (has w leaf ≡ spotted (at_home m) (has v leaf)) × (content w leaf ≡ m)

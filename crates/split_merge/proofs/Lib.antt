@@ -7,4 +7,3 @@ mod Merging
 mod Choosing
 mod Ending
 mod Results
-mod Starting
