@@ -8,7 +8,8 @@ import random
 import subprocess
 import sys
 
-from run import BUILD, build_peer, end, find_worm
+from measure import BUILD, end
+from run import build_peer, find_worm
 
 # Keys and values as lines have them: short and long, at each limit, with escapes whole and torn, and other bytes.
 BYTES = [b"a", b"b", b"0", b"~", b"%", b"*", b"%2A", b"%2a", b"%4", b"%zz", b"%00", b"%0D", b"%20", b"\x00", b"\x7f", b"\xff", b"\r"]

@@ -5,6 +5,8 @@
 //! - `lanes N`: each line begins with the number of its lane; N threads serve the lanes over one map in a lock, and
 //!   the output of each lane stands behind a line `LANE i`. Standard error tells the times.
 //! - `serve ADDRESS`: a session for each connection, each on a thread of its own, over one map in a lock
+//! - `client ADDRESS CONNECTIONS DEPTH KIND COUNT`: no peer, but what gives a server work, be it this one or `worm`:
+//!   COUNT requests of the kind `gets` or `half`, or a put of each key by `fill`, and it tells how long they took
 
 use std::env;
 use std::fs::File;
@@ -13,6 +15,8 @@ use std::mem::ManuallyDrop;
 use std::os::fd::FromRawFd;
 use std::process::ExitCode;
 
+#[path = "peer/client.rs"]
+mod client;
 #[path = "peer/lanes.rs"]
 mod lanes;
 #[path = "peer/requests.rs"]
@@ -47,6 +51,15 @@ fn lanes(count: &str) -> io::Result<()> {
     }
 }
 
+fn client(address: &str, connections: &str, depth: &str, kind: &str, count: &str) -> io::Result<()> {
+    match (connections.parse(), depth.parse(), count.parse()) {
+        (Ok(connections @ 1..=64), Ok(depth @ 1..=1_000), Ok(count)) => {
+            client::drive(address, connections, depth, kind, count)
+        }
+        _ => Err(io::Error::other("there are 1 to 64 connections and depths of 1 to 1,000")),
+    }
+}
+
 fn main() -> ExitCode {
     let words: Vec<String> = env::args().skip(1).collect();
     let words: Vec<&str> = words.iter().map(String::as_str).collect();
@@ -54,6 +67,7 @@ fn main() -> ExitCode {
         [] | ["run"] => run(),
         ["lanes", count] => lanes(count),
         ["serve", address] => server::serve(address),
+        ["client", address, connections, depth, kind, count] => client(address, connections, depth, kind, count),
         _ => Err(io::Error::other("words")),
     };
     match done {
