@@ -18,7 +18,7 @@ use Rattle.anchor_rules.specs.Anchors.{Anchors, span}
 use Rattle.leaf_spans.specs.Spread.{inside}
 use Rattle.board_rule.specs.Cells.{Cell, word_of, map_of, mine}
 use Rattle.board_rule.specs.Notes.{Note}
-use Rattle.board_rule.specs.Views.{GIVEN, looked}
+use Rattle.board_rule.specs.Views.{GIVEN, looked, LEAVES}
 use Rattle.board_rule.specs.Rule.{leaf_word, home_of, CellOk, Placed, LaneIs, SeatBelow, Holds, Knows, Shares, IsCounted, expected, Turn, turn_word, Dated, TurnIs, NotesOk, CurrentOk, Tables, bit, is_some, counts, times, has_number, Numbers, IsMet, Lasts, Alone, Kept}
 use Rattle.board_rule.specs.Steps.{Sat, Grew, Knew}
 use Rattle.board_rule.proofs.Lasting.{Rises, rises_same, rises_leaf, lasts_rise, lasts_look, look_now}
@@ -188,7 +188,7 @@ Goes k s i id m then n = (w : View) × (a : Act Place) × Valid s.homes m.1 a ×
 pub low_word : (k : Shape) (i : ℕ) (words : List ℕ) (n : ℕ) → get_or (set words (leaf_word k i) n) GIVEN 0 ≡ get_or words GIVEN 0
 low_word k i words n = get_or-set_other words (leaf_word k i) GIVEN n 0 (λ e. omega arith)
 
-pub high_word : (k : Shape) (i low : ℕ) (words : List ℕ) (n : ℕ) → low < 5 → get_or (set words (leaf_word k i) n) low 0 ≡ get_or words low 0
+pub high_word : (k : Shape) (i low : ℕ) (words : List ℕ) (n : ℕ) → low < LEAVES → get_or (set words (leaf_word k i) n) low 0 ≡ get_or words low 0
 high_word k i low words n h = get_or-set_other words (leaf_word k i) low n 0 (λ e. omega arith)
 
 pub shares_same : (now : Anchors) (log : List Entry) (cells : List Cell) (i : ℕ) (c c' : Cell) → get_elem? cells i ≡ some c → map_of c' ≡ map_of c → Shares now log cells → Shares now log (set cells i c')

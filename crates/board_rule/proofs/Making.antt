@@ -13,7 +13,7 @@ use Rattle.row_words.specs.declared.shape.Shape.{Shape}
 use Rattle.row_words.specs.Shape.{IsShape}
 use Rattle.row_words.specs.Layout as layout
 use Rattle.meta_trie.specs.Stands.{StandsFor}
-use Rattle.board_rule.specs.Rule.{row_count, Kept}
+use Rattle.board_rule.specs.Rule.{PADDING, row_count, Kept}
 use Rattle.board_rule.specs.Start.{AreFirst, view_at_start}
 use Rattle.board_rule.specs.declared.opening.Opening.{Opening}
 use Rattle.board_rule.specs.Made.{front_words, words_at_start, Leaves, AreEmpty}
@@ -67,8 +67,10 @@ pub made : (k : Shape) (o : Opening) (places : List Place) → IsShape k → o.s
 made k o places ok same are empty = subst (λ (z : Shape × List Place). Kept z.0 (opening o.words.items z.1 (view_at_start z.0 o.words.items))) (λ i. (sym same i, sym empty.are i))
     (starts k ok o.words.items are empty.contents empty.many empty.empty)
 
--- the words are the front, and the same rows twice
-pub words_are : (k : Shape) (ws first one two : List ℕ) → length ws ≡ row_count k → StandsFor k ws (([], 0) ∷ []) → first ≡ front_words k → one ≡ first ++ ws → two ≡ one ++ ws → AreFirst k two
-words_are k ws first one two long stands front e f =
-    let whole : two ≡ words_at_start k ws = f ∙ (ap (λ l. l ++ ws) (e ∙ ap (λ l. l ++ ws) front) ∙ append_assoc (front_words k) ws ws) in
+-- the words are the front, and the same rows twice, with words of 0 between
+pub words_are : (k : Shape) (ws first one two three : List ℕ) → length ws ≡ row_count k → StandsFor k ws (([], 0) ∷ []) → first ≡ front_words k → one ≡ first ++ ws → two ≡ one ++ replicate PADDING 0 → three ≡ two ++ ws → AreFirst k three
+words_are k ws first one two three long stands front e f g =
+    let pad : List ℕ = replicate PADDING 0 in
+    let start : one ≡ front_words k ++ ws = e ∙ ap (λ l. l ++ ws) front in
+    let whole : three ≡ words_at_start k ws = g ∙ (ap (λ l. l ++ ws) (f ∙ ap (λ l. l ++ pad) start) ∙ (append_assoc (front_words k ++ ws) pad ws ∙ append_assoc (front_words k) ws (pad ++ ws))) in
     subst (AreFirst k) (sym whole) (first_are k ws long stands)

@@ -20,7 +20,7 @@ use Rattle.board_rule.specs.declared.leaf.Place.{Place}
 use Rattle.board_rule.specs.Cells.{Cell}
 use Rattle.board_rule.specs.Pins.{Pin, LagSpot, lag_home, lag_moving, Spare, Lagging, behind, clearing, spare_at, pin_on}
 use Rattle.board_rule.specs.Notes.{note_of}
-use Rattle.board_rule.specs.Views.{VERSION, GIVEN, PINS, looked, unchecked, checked, unpinned, cleared, written, lagged}
+use Rattle.board_rule.specs.Views.{VERSION, GIVEN, PINS, looked, unchecked, checked, unpinned, cleared, written, lagged, LEAVES}
 use Rattle.board_rule.specs.Rule.{leaf_word, word_count, row_count, lag_place, Placed, LaneIs, table_at, rows_of, PinOk, PinIs, Behind, Clearing, LagIs, PinPlaced, Tables, Dated, has_turn, counts, bit, is_some, has_number, total, IsMet, Numbers, IsCounted, NotesOk, CurrentOk, Lasts, Kept}
 use Rattle.board_rule.specs.Steps.{Sat, note_or, current, anchors_now, Pinned, Checks, Unpinned, Clears, GrabsLag, PutsLag, kept_spare, pin_of, the_check, Reads}
 use Rattle.board_rule.proofs.Sums.{there, at_below, each_set, total-same, total-set, term_le, total_le, sum_to, sum_to_le, sum_to_one, counted_twice}
@@ -107,7 +107,7 @@ tabled k s o id v w words' homes' at long slots leaves places version turn-word 
     o.seats (subst (λ x. Numbers k x (set s.views id w)) (sym given) (numbers_same k _ s.views id v w at lane drawn room ended o.numbers)) (rises_kept k s.words words' version given leaves) lasting alone
 
 -- the count of pins on a table follows a view that pins or unpins it, and has no valid pin afterwards
-pinned_tables : (k : Shape) (words : List ℕ) (homes : List (maybe.Option Place)) (now : Anchors) (views : List View) (id : ℕ) (v w : View) (t n : ℕ) → 5 ≤ length words → get_elem? views id ≡ some v → t < 2 → n + pin_on t v.pin ≡ get_or words (PINS + t) 0 + pin_on t w.pin
+pinned_tables : (k : Shape) (words : List ℕ) (homes : List (maybe.Option Place)) (now : Anchors) (views : List View) (id : ℕ) (v w : View) (t n : ℕ) → LEAVES ≤ length words → get_elem? views id ≡ some v → t < 2 → n + pin_on t v.pin ≡ get_or words (PINS + t) 0 + pin_on t w.pin
     → ((x : ℕ) → x ≢ t → pin_on x w.pin ≡ pin_on x v.pin) → ((p : Pin) → w.pin ≡ Some p → p.checked ≡ None) → ((p : Pin) → w.pin ≡ Some p → PinPlaced w.lane p) → w.spare ≡ v.spare → w.turn ≡ v.turn → Tables k words homes now views → Tables k (set words (PINS + t) n) homes now (set views id w)
 pinned_tables k words homes now views id v w t n long at low count others un placed spare turn tb =
     let words' : List ℕ = set words (PINS + t) n in

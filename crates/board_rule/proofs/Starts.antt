@@ -1,5 +1,5 @@
 -- The rule at the beginning: one view, one live leaf without keys, and both tables alike.
-use Rattle.std.proofs.Common.{◌≡◌, ℕ, zero, suc, ◌+◌, ◌*◌, ◌<◌, ◌≤◌, List, [], ◌∷◌, ◌++◌, map, length, length-append, replicate, get_or, take, drop, sym, refl, ap, ◌∙◌, subst, arith, ◌%◌, Bool, eqb, cond, eq-eqb, ne_eqb, lt-ltb, Option, Some, None}
+use Rattle.std.proofs.Common.{◌≡◌, ℕ, zero, suc, ◌+◌, ◌-◌, ◌*◌, ◌<◌, ◌≤◌, List, [], ◌∷◌, ◌++◌, map, length, length-append, replicate, get_or, take, drop, sym, refl, ap, ◌∙◌, subst, arith, ◌%◌, Bool, eqb, cond, eq-eqb, ne_eqb, lt-ltb, Option, Some, None}
 use Rattle.std.proofs.lemmas.List.{get_or-replicate, length-replicate, drop-drop, take_all}
 use mathlib.Core.Logic.{dite}
 use mathlib.Core.Option.{some, some-injective, some-ne-none}
@@ -25,7 +25,7 @@ use Rattle.board_rule.specs.Pins.{Pin, behind, pin_on}
 use Rattle.board_rule.specs.Start.{AreFirst, view_at_start, places_at_start}
 use Rattle.board_rule.specs.Made.{front_words, words_at_start}
 use Rattle.board_rule.specs.Views.{VERSION, GIVEN, PINS, LEAVES}
-use Rattle.board_rule.specs.Rule.{leaf_word, word_count, row_count, table_at, rows_of, home_of, CellOk, LaneIs, SeatBelow, Holds, Dated, TurnIs, NotesOk, CurrentOk, PinIs, PinPlaced, bit, counts, total, Lasts, Alone, Kept, expected}
+use Rattle.board_rule.specs.Rule.{PADDING, leaf_word, word_count, row_count, table_at, rows_of, home_of, CellOk, LaneIs, SeatBelow, Holds, Dated, TurnIs, NotesOk, CurrentOk, PinIs, PinPlaced, bit, counts, total, Lasts, Alone, Kept, expected}
 
 drop_front : (xs ys : List ℕ) (n : ℕ) → length xs ≡ n → drop n (xs ++ ys) ≡ ys
 drop_front [] ys zero e = refl
@@ -72,32 +72,38 @@ no_pairs : (o : Option Span) → [] ≡ inside {V = List ℕ} o []
 no_pairs None = refl
 no_pairs (Some s) = refl
 
--- the words in front, and the same rows twice
+-- the words in front, and the same rows twice, with words of 0 between
+abbrev padded : List ℕ → List ℕ
+padded rows = replicate PADDING 0 ++ rows
+
 module _ (k : Shape) (rows : List ℕ) (wide : length rows ≡ row_count k) where
+  long_padded : length (replicate {A = ℕ} PADDING 0) ≡ PADDING
+  long_padded = length-replicate {A = ℕ} PADDING 0
+
   long_front : length (front_words k) ≡ LEAVES + k.leaves
-  long_front = let zero-word : ℕ = 0 in let c = length-replicate k.leaves zero-word in omega (arith, c)
+  long_front = let c = length-replicate {A = ℕ} (LEAVES + k.leaves - 3) 0 in omega (arith, c)
 
   first_rows : rows_of k (words_at_start k rows) 0 ≡ rows
-  first_rows = ap (λ n. take (row_count k) (drop n (words_at_start k rows))) (let z : LEAVES + k.leaves + 0 * row_count k ≡ LEAVES + k.leaves = omega arith in z)
-      ∙ (ap (take (row_count k)) (drop_front (front_words k) (rows ++ rows) (LEAVES + k.leaves) long_front) ∙ take_front rows rows (row_count k) wide)
+  first_rows = ap (λ n. take (row_count k) (drop n (words_at_start k rows))) (let z : LEAVES + k.leaves + 0 * (row_count k + PADDING) ≡ LEAVES + k.leaves = omega arith in z)
+      ∙ (ap (take (row_count k)) (drop_front (front_words k) (rows ++ padded rows) (LEAVES + k.leaves) long_front) ∙ take_front rows (padded rows) (row_count k) wide)
 
   second_rows : rows_of k (words_at_start k rows) 1 ≡ rows
-  second_rows = ap (λ n. take (row_count k) (drop n (words_at_start k rows))) (let z : LEAVES + k.leaves + 1 * row_count k ≡ (LEAVES + k.leaves) + row_count k = omega arith in z)
-      ∙ (ap (take (row_count k)) (sym (drop-drop (row_count k) (LEAVES + k.leaves) (words_at_start k rows)) ∙ (ap (drop (row_count k)) (drop_front (front_words k) (rows ++ rows) (LEAVES + k.leaves) long_front) ∙ drop_front rows rows (row_count k) wide))
+  second_rows = ap (λ n. take (row_count k) (drop n (words_at_start k rows))) (let z : LEAVES + k.leaves + 1 * (row_count k + PADDING) ≡ (LEAVES + k.leaves) + (row_count k + PADDING) = omega arith in z)
+      ∙ (ap (take (row_count k)) (sym (drop-drop (row_count k + PADDING) (LEAVES + k.leaves) (words_at_start k rows))
+      ∙ (ap (drop (row_count k + PADDING)) (drop_front (front_words k) (rows ++ padded rows) (LEAVES + k.leaves) long_front)
+      ∙ (sym (drop-drop PADDING (row_count k) (rows ++ padded rows)) ∙ (ap (drop PADDING) (drop_front rows (padded rows) (row_count k) wide) ∙ drop_front (replicate PADDING 0) rows PADDING long_padded))))
       ∙ take_all (row_count k) rows (omega (arith, wide)))
 
   front_word : (i : ℕ) → i < LEAVES + k.leaves → get_or (front_words k) i 0 ≡ cond (eqb i GIVEN) 1 0
   front_word zero lt = refl
   front_word (suc zero) lt = refl
   front_word (suc (suc zero)) lt = refl
-  front_word (suc (suc (suc zero))) lt = refl
-  front_word (suc (suc (suc (suc zero)))) lt = refl
-  front_word (suc (suc (suc (suc (suc i))))) lt = get_or-replicate k.leaves i 0 0 (omega arith) ∙ sym (ap (λ (b : Bool). cond b 1 0) (ne_eqb (suc (suc (suc (suc (suc i))))) GIVEN (λ e. omega arith)))
+  front_word (suc (suc (suc i))) lt = get_or-replicate (LEAVES + k.leaves - 3) i 0 0 (omega arith) ∙ sym (ap (λ (b : Bool). cond b 1 0) (ne_eqb (suc (suc (suc i))) GIVEN (λ e. omega arith)))
 
   pub first_are : StandsFor k rows (([], 0) ∷ []) → AreFirst k (words_at_start k rows)
   first_are stands = record {
-    wide = let a = length-append (front_words k) (rows ++ rows) in let b = length-append rows rows in let c = long_front in omega (arith, a, b, c, wide);
-    front = λ i lt. let long = long_front in at_front (front_words k) (rows ++ rows) i (omega arith) ∙ front_word i lt;
+    wide = let a = length-append (front_words k) (rows ++ padded rows) in let b = length-append rows (padded rows) in let d = length-append (replicate {A = ℕ} PADDING 0) rows in let e = long_padded in let c = long_front in omega (arith, a, b, c, d, e, wide);
+    front = λ i lt. let long = long_front in at_front (front_words k) (rows ++ padded rows) i (omega arith) ∙ front_word i lt;
     first = subst (λ r. StandsFor k r (([], 0) ∷ [])) (sym first_rows) stands;
     second = subst (λ r. StandsFor k r (([], 0) ∷ [])) (sym second_rows) stands;
   }
@@ -183,6 +189,6 @@ module _ (k : Shape) (ok : IsShape k) (ws : List ℕ) (are : AreFirst k ws) wher
         }
       where
         no_pins : (t : ℕ) → t < 2 → get_or ws (PINS + t) 0 ≡ total (λ (u : View). pin_on t u.pin) (view_at_start k ws ∷ [])
-        no_pins zero lt = are.front 3 (omega arith)
-        no_pins (suc zero) lt = are.front 4 (omega arith)
+        no_pins zero lt = are.front PINS (omega arith)
+        no_pins (suc zero) lt = are.front (PINS + 1) (omega arith)
         no_pins (suc (suc t)) lt = absurd (omega arith)

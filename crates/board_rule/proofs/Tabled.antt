@@ -40,7 +40,7 @@ pub record Agrees (k : Shape) (words words' : List ℕ) : Type 0 where
 pub agrees : (k : Shape) (words : List ℕ) → Agrees k words words
 agrees k words = record { version = refl; pins = λ _ _. refl; rows = λ _. refl }
 
-pub agrees_set : (k : Shape) (words : List ℕ) (i x : ℕ) → i ≢ 0 → i ≢ 3 → i ≢ 4 → i < table_at k 0 → Agrees k words (set words i x)
+pub agrees_set : (k : Shape) (words : List ℕ) (i x : ℕ) → i ≢ 0 → i ≢ PINS → i ≢ PINS + 1 → i < table_at k 0 → Agrees k words (set words i x)
 agrees_set k words i x a b c h = record {
   version = get_or-set_other words i 0 x 0 (λ e. a (sym e));
   pins = λ t lt. get_or-set_other words i (PINS + t) x 0 (λ e. dite (ℕ_discrete t 0) (λ z. b (omega arith)) (λ nz. c (omega arith)));

@@ -30,12 +30,16 @@ row_count k = layout.word_count k
 abbrev pub leaf_word : Shape → ℕ → ℕ
 leaf_word k leaf = LEAVES + leaf
 
--- the five words in front, a word for each leaf, and two tables
+-- so many words between the two tables stay 0
+abbrev pub PADDING : ℕ
+PADDING = 4
+
+-- the words in front, a word for each leaf, and two tables with the padding between them
 abbrev pub word_count : Shape → ℕ
-word_count k = LEAVES + k.leaves + 2 * row_count k
+word_count k = LEAVES + k.leaves + 2 * row_count k + PADDING
 
 abbrev pub table_at : Shape → ℕ → ℕ
-table_at k t = LEAVES + k.leaves + t * row_count k
+table_at k t = LEAVES + k.leaves + t * (row_count k + PADDING)
 
 abbrev pub rows_of : Shape → List ℕ → ℕ → List ℕ
 rows_of k words t = segment words (table_at k t) (row_count k)

@@ -8,7 +8,8 @@ use Rattle.board_rule.specs.Notes.{note_of}
 use Rattle.board_rule.specs.Cells.{Map, Content, shown, Holding, Spot, at_home, away, moving}
 use Rattle.board_rule.specs.Pins.{Pin, Spare, LagSpot}
 
--- the words of the version, of the turn and of the lanes given, the first of the two words of pins, and the first of a leaf
+-- The words of the version, of the turn and of the lanes given, the first of the two words of pins, and the first of a leaf. The words
+-- between stay 0.
 abbrev pub VERSION : ℕ
 VERSION = 0
 
@@ -19,10 +20,10 @@ abbrev pub GIVEN : ℕ
 GIVEN = 2
 
 abbrev pub PINS : ℕ
-PINS = 3
+PINS = 6
 
 abbrev pub LEAVES : ℕ
-LEAVES = 5
+LEAVES = 18
 
 abbrev pub looked : ℕ → ℕ → View → View
 looked word found v = record v { looks = v.looks ++ (word, found) ∷ [] }

@@ -14,7 +14,7 @@ use crate::leaf::Place;
 use crate::opening::Opening;
 use crate::rule::{Does, Law, Meeting, Spends, Tells};
 use crate::view::View;
-use crate::words::FIRST_LEAF_WORD;
+use crate::words::{FIRST_LEAF_WORD, TABLE_PADDING};
 use atomic_table::Table;
 use row_words::Shape;
 use std::alloc::Global;
@@ -22,7 +22,8 @@ use std::alloc::Global;
 type Seat = atomic_table::Seat<Place, View>;
 
 /// The words and places of one index: a word for each of the version, the turn and the lanes given,
-/// two for pins, one for each leaf, and two tables; a place for each leaf and one for the lag record.
+/// two for pins, one for each leaf, and two tables, with some that stay 0 between them; a place for
+/// each leaf and one for the lag record.
 #[derive(Drop)]
 pub struct Board {
     pub(crate) table: Table<Place, View, Opening, Law, Global>,
@@ -79,7 +80,7 @@ impl Board {
         if table == 0 {
             first + i
         } else {
-            first + self.shape.word_count() + i
+            first + self.shape.word_count() + TABLE_PADDING + i
         }
     }
 

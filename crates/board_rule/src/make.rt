@@ -10,6 +10,7 @@ ghost use Rattle.board_rule.specs.Passes.{view, IsOf};
 use crate::board::{Board, Pass};
 use crate::leaf::Place;
 use crate::opening::Opening;
+use crate::words::{FIRST_LEAF_WORD, TABLE_PADDING};
 use atomic_table::{Refused, Table};
 use leaf_store::Leaf;
 use meta_trie::{Lag, start_zeroed};
@@ -42,10 +43,11 @@ fn push_rows(words: &mut Vec<u64>, rows: &mut VecRows) -> Result<(), AllocError>
 
 // The words in front of the tables.
 fn first_words(alloc: Global, shape: &Shape) -> Result<Vec<u64>, AllocError>
+    requires { IsShape shape.now }
     ensures { IfOk result (λ words. words.items ≡ front_words shape.now) }
 {
-    let mut words = vec![in alloc; 0u64, 0, 1, 0, 0]?;
-    push_many(&mut words, 0, shape.leaves)?;
+    let mut words = vec![in alloc; 0u64, 0, 1]?;
+    push_many(&mut words, 0, FIRST_LEAF_WORD + shape.leaves - 3)?;
     Ok(words)
 }
 
@@ -60,6 +62,7 @@ fn opening(alloc: Global, shape: &Shape) -> Result<Opening, AllocError>
     start_zeroed(&mut rows);
     let mut words = first_words(alloc, shape)?;
     push_rows(&mut words, &mut rows)?;
+    push_many(&mut words, 0, TABLE_PADDING)?;
     push_rows(&mut words, &mut rows)?;
     Ok(Opening {
         shape: *shape,
