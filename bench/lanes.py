@@ -1,7 +1,8 @@
 """The table of lanes: `worm lanes` beside the peer's threads over one map in an `RwLock`.
 
-What is timed is serving alone. The input is read whole and dealt out to the lanes first, and the index is made and filled;
-a second run has all this to do too, but a QUIT in front of the requests of each lane, and is taken off."""
+What is timed is serving alone. The input is read whole and dealt out to the lanes first, and the index is made and
+filled. A second run has all this to do too, but a QUIT in front of the requests of each lane, and its time is taken off.
+A third run has the QUIT in front of all lines: it tells what reading and dealing take, and making an empty index."""
 
 from __future__ import annotations
 
@@ -9,7 +10,7 @@ import os
 from collections.abc import Iterator
 from dataclasses import dataclass
 
-from measure import BUILD, Numbers, Rounds, Table, end, on_files, percent, rounds_of
+from measure import BUILD, Numbers, Plan, Rounds, Table, end, on_files, percent
 from scripts import KEYS, START, WIDE, address, numbers
 
 HOT = 16
@@ -24,7 +25,9 @@ COLUMNS = [
     "worm / peer, time",
     "worm / peer, processor",
     "worm rest, s",
+    "of it reading, s",
     "peer rest, s",
+    "of it reading, s",
 ]
 
 
@@ -67,21 +70,21 @@ def requests(mix: Mix, lanes: int, count: int) -> Iterator[str]:
 
 
 def write_inputs(mix: Mix, lanes: int, count: int) -> dict[str, str]:
-    """The input with all requests, and the one whose lanes end in front of them."""
+    """The input with all requests, the one whose lanes end in front of them, and the one whose lanes end at once."""
     first = "".join(filling(lanes))
     last = "".join(requests(mix, lanes, count))
     ends = "".join(f"{lane} QUIT\n" for lane in range(lanes))
     paths = {}
-    for name, text in (("all", first + last), ("rest", first + ends + last)):
+    for name, text in (("all", first + last), ("rest", first + ends + last), ("reading", ends + first + last)):
         paths[name] = os.path.join(BUILD, f"lanes_{name}.txt")
         with open(paths[name], "w", newline="\n") as file:
             file.write(text)
     return paths
 
 
-def lanes_table(worm: str, peer: str, rounds: int, is_quick: bool) -> list[dict[str, float | str]]:
+def lanes_table(worm: str, peer: str, plan: Plan) -> list[dict[str, float | str]]:
     """Answers its rows for the picture, too."""
-    count = 200_000 if is_quick else 800_000
+    count = 200_000 if plan.is_quick else 800_000
     table = Table(f"Lanes, {count:,} requests over {KEYS:,} keys of 44 bytes", COLUMNS)
     rows: list[dict[str, float | str]] = []
     for mix in MIXES:
@@ -89,7 +92,7 @@ def lanes_table(worm: str, peer: str, rounds: int, is_quick: bool) -> list[dict[
             inputs = write_inputs(mix, lanes, count)
             words = {"worm": [worm, "lanes", str(lanes), *WIDE], "peer": [peer, "lanes", str(lanes)]}
             check(words, inputs["all"], lanes, mix, count)
-            made = rounds_of(rounds, lambda: served(words, inputs))
+            made = plan.rounds_of(lambda: served(words, inputs))
             table.row(cells(mix, lanes, count, made), made)
             rows.append(
                 {"mix": mix.name, "lanes": lanes}
@@ -113,6 +116,7 @@ def served(words: dict[str, list[str]], inputs: dict[str, str]) -> Numbers:
         found[program] = max(clock - rest, 1e-4)
         found[program + " processor"] = max(processor - rest_processor, 1e-4)
         found[program + " rest"] = rest
+        found[program + " reading"] = times[program, "reading"][0]
     return found
 
 
@@ -126,10 +130,9 @@ def check(words: dict[str, list[str]], script: str, lanes: int, mix: Mix, count:
             outputs[program] = file.read()
         os.remove(path)
         refusals = [word for word in (b"\nERR", b"\nAGAIN", b"\nFULL", b"\nNOMEM") if word in outputs[program]]
-        ends = outputs[program].count(b"\nEND ")
         replies = outputs[program].count(b"\n") - outputs[program].count(b"\nPAIR ")
         if refusals or replies != KEYS + count + lanes:
-            end(f"{program} gave {replies} replies, {ends} of them to scans, in {lanes} lanes of {mix.name}: {refusals}")
+            end(f"{program} gave {replies} replies, {refusals} among them, in {lanes} lanes of {mix.name}")
     if lanes == 1 and outputs["worm"] != outputs["peer"]:
         end(f"the outputs of one lane of {mix.name} differ")
 
@@ -139,5 +142,5 @@ def cells(mix: Mix, lanes: int, count: int, rounds: Rounds) -> list[str]:
         (f"{count / rounds.median(program) / 1e6:.2f}", percent(rounds.spread(program))) for program in ("worm", "peer")
     ]
     ratios = [f"{rounds.ratio('worm' + kind, 'peer' + kind):.2f}" for kind in ("", " processor")]
-    rests = [f"{rounds.median(program + ' rest'):.3f}" for program in ("worm", "peer")]
+    rests = [f"{rounds.median(program + part):.3f}" for program in ("worm", "peer") for part in (" rest", " reading")]
     return [mix.name, str(lanes), *speeds[0], *speeds[1], *ratios, *rests]

@@ -19,9 +19,6 @@ TICKS = os.sysconf("SC_CLK_TCK")
 MOST_FOREIGN = 0.10
 """A round is dropped where other programs took more than this part of the processors while it ran."""
 
-TRIES = 2
-"""So many times the rounds that are wanted are made at most; then all count, as on a machine that is never calm."""
-
 Numbers = dict[str, float]
 
 
@@ -89,23 +86,35 @@ def spread(numbers: list[float]) -> float:
     return (max(numbers) - min(numbers)) / statistics.median(numbers)
 
 
-def rounds_of(count: int, once: Callable[[], Numbers], others: Callable[[], float] = lambda: 0.0) -> Rounds:
-    """Makes rounds until there are enough of those in which the machine was calm. `others` tells the processor time of
-    programs of the bench that aren't waited for, as a server."""
-    kept: list[Numbers] = []
-    stray: list[tuple[float, Numbers]] = []
-    while len(kept) < count and len(kept) + len(stray) < TRIES * count:
-        start, busy, own = time.perf_counter(), busy_seconds(), own_seconds() + others()
-        numbers = once()
-        room = (time.perf_counter() - start) * (os.cpu_count() or 1)
-        foreign = (busy_seconds() - busy - (own_seconds() + others() - own)) / room
-        if foreign <= MOST_FOREIGN:
-            kept.append(numbers)
-        else:
-            stray.append((foreign, numbers))
-    if len(kept) >= count:
-        return Rounds(kept, [foreign for foreign, _ in stray], False)
-    return Rounds(kept + [numbers for _, numbers in stray], [], True)
+@dataclass(frozen=True)
+class Plan:
+    """How often is measured. So many times the rounds that are wanted are made at most; then all count, as on a machine
+    that is never calm."""
+
+    rounds: int
+    tries: int
+    is_quick: bool
+
+    def rounds_of(
+        self, once: Callable[[], Numbers], others: Callable[[], float] = lambda: 0.0, times: int = 1
+    ) -> Rounds:
+        """Makes rounds until there are enough of those in which the machine was calm. `others` tells the processor time
+        of programs of the bench that aren't waited for, as a server."""
+        wanted = times * self.rounds
+        kept: list[Numbers] = []
+        stray: list[tuple[float, Numbers]] = []
+        while len(kept) < wanted and len(kept) + len(stray) < self.tries * wanted:
+            start, busy, own = time.perf_counter(), busy_seconds(), own_seconds() + others()
+            numbers = once()
+            room = (time.perf_counter() - start) * (os.cpu_count() or 1)
+            foreign = (busy_seconds() - busy - (own_seconds() + others() - own)) / room
+            if foreign <= MOST_FOREIGN:
+                kept.append(numbers)
+            else:
+                stray.append((foreign, numbers))
+        if len(kept) >= wanted:
+            return Rounds(kept, [foreign for foreign, _ in stray], False)
+        return Rounds(kept + [numbers for _, numbers in stray], [], True)
 
 
 class Table:
@@ -125,7 +134,8 @@ class Table:
         dropped = [foreign for rounds in self.rounds for foreign in rounds.dropped]
         busy = sum(rounds.is_busy for rounds in self.rounds)
         kept = sum(len(rounds.kept) for rounds in self.rounds)
-        print(f"\n{machine()}; load {self.start} at the start, {load()} at the end; {kept} rounds in {len(self.rounds)} rows.")
+        loads = f"load {self.start} at the start, {load()} at the end"
+        print(f"\n{machine()}; {loads}; {kept} rounds in {len(self.rounds)} rows.")
         if dropped:
             print(f"Dropped: {len(dropped)} rounds, in which others took {least_and_most(dropped)} of the processors.")
         if busy:

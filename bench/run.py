@@ -18,7 +18,7 @@ import shutil
 import subprocess
 
 from lanes import lanes_table
-from measure import BUILD, HERE, end
+from measure import BUILD, HERE, Plan, end
 from picture import draw
 from server import calls_table, server_table
 from sessions import sessions_table
@@ -65,14 +65,15 @@ def asked() -> argparse.Namespace:
 def main() -> None:
     words = asked()
     rounds = max(QUICK_ROUNDS if words.quick else LEAST_ROUNDS, words.rounds)
+    plan = Plan(rounds, 1 if words.quick else 2, words.quick)
     os.makedirs(BUILD, exist_ok=True)
     [peer] = build_peer()
     worm = find_worm()[0]
     tables = words.only.split(",")
     if "sessions" in tables:
-        sessions_table(worm, peer, rounds, words.quick)
-    of_lanes = lanes_table(worm, peer, rounds, words.quick) if "lanes" in tables else []
-    of_server = server_table(worm, peer, rounds, words.quick) if "server" in tables else []
+        sessions_table(worm, peer, plan)
+    of_lanes = lanes_table(worm, peer, plan) if "lanes" in tables else []
+    of_server = server_table(worm, peer, plan) if "server" in tables else []
     if "calls" in tables:
         calls_table(worm, peer)
     if of_lanes and of_server:

@@ -150,11 +150,12 @@ SCRIPTS = {
 }
 
 
-def write_scripts(folder):
-    """Writes each script that isn't there yet, and answers their paths by name."""
+def write_scripts(folder, names=tuple(SCRIPTS)):
+    """Writes each of these scripts that isn't there yet, and answers their paths by name."""
     os.makedirs(folder, exist_ok=True)
     paths = {}
-    for name, (lines, _) in SCRIPTS.items():
+    for name in names:
+        lines, _ = SCRIPTS[name]
         path = os.path.join(folder, name + ".txt")
         if not os.path.exists(path):
             with open(path + ".part", "w", newline="\n") as file:

@@ -14,7 +14,7 @@ import time
 from collections.abc import Iterator
 from contextlib import contextmanager
 
-from measure import BUILD, TICKS, Numbers, Rounds, Table, end, line, load, machine, percent, rounds_of
+from measure import BUILD, TICKS, Numbers, Plan, Rounds, Table, end, line, load, machine, percent
 from scripts import KEYS, WIDE
 
 HOST = "127.0.0.1"
@@ -98,14 +98,14 @@ def both(worm: str, peer: str) -> Iterator[dict[str, Server]]:
             server.process.wait()
 
 
-def server_table(worm: str, peer: str, rounds: int, is_quick: bool) -> list[dict[str, float | str]]:
+def server_table(worm: str, peer: str, plan: Plan) -> list[dict[str, float | str]]:
     """Answers its rows for the picture, too."""
     table = Table(f"Server, {CONNECTIONS} connections, {KEYS:,} keys of 44 bytes", COLUMNS)
     rows: list[dict[str, float | str]] = []
     with both(worm, peer) as servers:
         for kind, name in KINDS.items():
             for depth in (1, 16):
-                count = (20_000 if depth == 1 else 200_000) * (1 if is_quick else 5)
+                count = (20_000 if depth == 1 else 200_000) * (1 if plan.is_quick else 5)
 
                 def once() -> Numbers:
                     return {
@@ -114,7 +114,7 @@ def server_table(worm: str, peer: str, rounds: int, is_quick: bool) -> list[dict
                         for key, number in driven(server, depth, kind, count).items()
                     }
 
-                made = rounds_of(rounds, once, lambda: sum(server.processor() for server in servers.values()))
+                made = plan.rounds_of(once, lambda: sum(server.processor() for server in servers.values()))
                 table.row(cells(name, depth, count, made), made)
                 rows.append(
                     {"requests": name, "depth": depth}

@@ -7,7 +7,7 @@ import os
 import subprocess
 import time
 
-from measure import BUILD, Numbers, Rounds, Table, end, finished, on_files, percent, rounds_of
+from measure import BUILD, Numbers, Plan, Rounds, Table, end, finished, on_files, percent
 from scripts import SCRIPTS, write_scripts
 
 COLUMNS = ["script", "on", "worm, s", "spread", "peer, s", "spread", "worm / peer, clock", "worm / peer, processor"]
@@ -36,15 +36,13 @@ def on_pipes(words: list[str], script: str, output: str) -> tuple[float, float]:
         return time.perf_counter() - start, processor
 
 
-def sessions_table(worm: str, peer: str, rounds: int, is_quick: bool) -> None:
+def sessions_table(worm: str, peer: str, plan: Plan) -> None:
     table = Table("One session", COLUMNS)
     outputs = {program: os.path.join(BUILD, program + ".out") for program in ("worm", "peer")}
-    for name, script in write_scripts(BUILD).items():
-        if is_quick and name not in QUICK:
-            continue
+    for name, script in write_scripts(BUILD, QUICK if plan.is_quick else list(SCRIPTS)).items():
         words = {"worm": [worm, "run", *SCRIPTS[name][1]], "peer": [peer]}
         for way, timed in (("files", on_files), ("pipes", on_pipes)):
-            if is_quick and way == "pipes":
+            if plan.is_quick and way == "pipes":
                 continue
 
             def once() -> Numbers:
@@ -57,7 +55,7 @@ def sessions_table(worm: str, peer: str, rounds: int, is_quick: bool) -> None:
                 return numbers
 
             is_short = once()["peer"] < SHORT
-            made = rounds_of(SHORT_ROUNDS * rounds if is_short else rounds, once)
+            made = plan.rounds_of(once, times=SHORT_ROUNDS if is_short else 1)
             table.row(cells(name, way, made), made)
     table.close()
 

@@ -36,7 +36,8 @@ sys.path.insert(0, os.path.join(TOP, "clients"))
 from legal_orders import Call, Read, Search, Verdict, Write, is_lane_after_lane  # noqa: E402
 from worm import Delete, Get, Pair, Put, Request, Scan, unescape  # noqa: E402
 
-PATIENCE = 60
+# No run takes so long that a lane doesn't wait in vain.
+PATIENCE = 400
 KEYS = 8
 # How many calls a lane makes on keys that all use. Short scripts are searched whole; threads meet in long ones.
 CALLS = [8, 30, 100, 300]
