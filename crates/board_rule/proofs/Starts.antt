@@ -1,6 +1,5 @@
 -- The rule at the beginning: one view, one live leaf without keys, and both tables alike.
-use Rattle.std.proofs.Common.{◌≡◌, ℕ, zero, suc, ◌+◌, ◌-◌, ◌*◌, ◌<◌, ◌≤◌, List, [], ◌∷◌, ◌++◌, map, length, length-append, replicate, get_or, take, drop, sym, refl, ap, ◌∙◌, subst, arith, ◌%◌, Bool, eqb, cond, eq-eqb, ne_eqb, lt-ltb, Option, Some, None}
-use Rattle.std.proofs.lemmas.List.{get_or-replicate, length-replicate, drop-drop, take_all}
+use Rattle.std.proofs.Common.{◌≡◌, ℕ, zero, suc, ◌+◌, ◌<◌, ◌≤◌, List, [], ◌∷◌, map, length, length-append, replicate, get_or, sym, refl, ap, ◌∙◌, subst, arith, ◌%◌, Bool, cond, eq-eqb, ne_eqb, lt-ltb, Option, Some, None}
 use mathlib.Core.Logic.{dite}
 use mathlib.Core.Option.{some, some-injective, some-ne-none}
 use native.Mathlib.Decide.{ℕ_discrete}
@@ -23,32 +22,8 @@ use Rattle.board_rule.proofs.Sums.{at_below}
 use Rattle.board_rule.specs.Cells.{Content, Cell, free, map_of, word_of, mine}
 use Rattle.board_rule.specs.Pins.{Pin, behind, pin_on}
 use Rattle.board_rule.specs.Start.{AreFirst, view_at_start, places_at_start}
-use Rattle.board_rule.specs.Made.{front_words, words_at_start}
 use Rattle.board_rule.specs.Views.{VERSION, GIVEN, PINS, LEAVES}
 use Rattle.board_rule.specs.Rule.{PADDING, leaf_word, word_count, row_count, table_at, rows_of, home_of, CellOk, LaneIs, SeatBelow, Holds, Dated, TurnIs, NotesOk, CurrentOk, PinIs, PinPlaced, bit, counts, total, Lasts, Alone, Kept, expected}
-
-drop_front : (xs ys : List ℕ) (n : ℕ) → length xs ≡ n → drop n (xs ++ ys) ≡ ys
-drop_front [] ys zero e = refl
-drop_front [] ys (suc n) e = absurd (omega arith)
-drop_front (x ∷ xs) ys zero e = absurd (omega arith)
-drop_front (x ∷ xs) ys (suc n) e = drop_front xs ys n (omega arith)
-
-take_front : (xs ys : List ℕ) (n : ℕ) → length xs ≡ n → take n (xs ++ ys) ≡ xs
-take_front [] ys zero e = refl
-take_front [] ys (suc n) e = absurd (omega arith)
-take_front (x ∷ xs) ys zero e = absurd (omega arith)
-take_front (x ∷ xs) ys (suc n) e = ap (λ l. x ∷ l) (take_front xs ys n (omega arith))
-
-at_front : (xs ys : List ℕ) (i : ℕ) → i < length xs → get_or (xs ++ ys) i 0 ≡ get_or xs i 0
-at_front [] ys i h = absurd (omega arith)
-at_front (x ∷ xs) ys zero h = refl
-at_front (x ∷ xs) ys (suc i) h = at_front xs ys i (omega arith)
-
-at_back : (xs ys : List ℕ) (n i : ℕ) → length xs ≡ n → get_or (xs ++ ys) (n + i) 0 ≡ get_or ys i 0
-at_back [] ys zero i e = let z : 0 + i ≡ i = omega arith in ap (λ j. get_or ys j 0) z
-at_back [] ys (suc n) i e = absurd (omega arith)
-at_back (x ∷ xs) ys zero i e = absurd (omega arith)
-at_back (x ∷ xs) ys (suc n) i e = let z : suc n + i ≡ suc (n + i) = omega arith in ap (λ j. get_or (x ∷ (xs ++ ys)) j 0) z ∙ at_back xs ys n i (omega arith)
 
 at_unmap : {A B : Type 0} (f : A → B) (l : List A) (i : ℕ) (b : B) → get_elem? (map f l) i ≡ some b → (a : A) × (get_elem? l i ≡ some a) × (f a ≡ b)
 at_unmap f [] i b e = absurd (some-ne-none b (sym e))
@@ -71,42 +46,6 @@ first_anchors = ([], 0) ∷ []
 no_pairs : (o : Option Span) → [] ≡ inside {V = List ℕ} o []
 no_pairs None = refl
 no_pairs (Some s) = refl
-
--- the words in front, and the same rows twice, with words of 0 between
-abbrev padded : List ℕ → List ℕ
-padded rows = replicate PADDING 0 ++ rows
-
-module _ (k : Shape) (rows : List ℕ) (wide : length rows ≡ row_count k) where
-  long_padded : length (replicate {A = ℕ} PADDING 0) ≡ PADDING
-  long_padded = length-replicate {A = ℕ} PADDING 0
-
-  long_front : length (front_words k) ≡ LEAVES + k.leaves
-  long_front = let c = length-replicate {A = ℕ} (LEAVES + k.leaves - 3) 0 in omega (arith, c)
-
-  first_rows : rows_of k (words_at_start k rows) 0 ≡ rows
-  first_rows = ap (λ n. take (row_count k) (drop n (words_at_start k rows))) (let z : LEAVES + k.leaves + 0 * (row_count k + PADDING) ≡ LEAVES + k.leaves = omega arith in z)
-      ∙ (ap (take (row_count k)) (drop_front (front_words k) (rows ++ padded rows) (LEAVES + k.leaves) long_front) ∙ take_front rows (padded rows) (row_count k) wide)
-
-  second_rows : rows_of k (words_at_start k rows) 1 ≡ rows
-  second_rows = ap (λ n. take (row_count k) (drop n (words_at_start k rows))) (let z : LEAVES + k.leaves + 1 * (row_count k + PADDING) ≡ (LEAVES + k.leaves) + (row_count k + PADDING) = omega arith in z)
-      ∙ (ap (take (row_count k)) (sym (drop-drop (row_count k + PADDING) (LEAVES + k.leaves) (words_at_start k rows))
-      ∙ (ap (drop (row_count k + PADDING)) (drop_front (front_words k) (rows ++ padded rows) (LEAVES + k.leaves) long_front)
-      ∙ (sym (drop-drop PADDING (row_count k) (rows ++ padded rows)) ∙ (ap (drop PADDING) (drop_front rows (padded rows) (row_count k) wide) ∙ drop_front (replicate PADDING 0) rows PADDING long_padded))))
-      ∙ take_all (row_count k) rows (omega (arith, wide)))
-
-  front_word : (i : ℕ) → i < LEAVES + k.leaves → get_or (front_words k) i 0 ≡ cond (eqb i GIVEN) 1 0
-  front_word zero lt = refl
-  front_word (suc zero) lt = refl
-  front_word (suc (suc zero)) lt = refl
-  front_word (suc (suc (suc i))) lt = get_or-replicate (LEAVES + k.leaves - 3) i 0 0 (omega arith) ∙ sym (ap (λ (b : Bool). cond b 1 0) (ne_eqb (suc (suc (suc i))) GIVEN (λ e. omega arith)))
-
-  pub first_are : StandsFor k rows (([], 0) ∷ []) → AreFirst k (words_at_start k rows)
-  first_are stands = record {
-    wide = let a = length-append (front_words k) (rows ++ padded rows) in let b = length-append rows (padded rows) in let d = length-append (replicate {A = ℕ} PADDING 0) rows in let e = long_padded in let c = long_front in omega (arith, a, b, c, d, e, wide);
-    front = λ i lt. let long = long_front in at_front (front_words k) (rows ++ padded rows) i (omega arith) ∙ front_word i lt;
-    first = subst (λ r. StandsFor k r (([], 0) ∷ [])) (sym first_rows) stands;
-    second = subst (λ r. StandsFor k r (([], 0) ∷ [])) (sym second_rows) stands;
-  }
 
 module _ (k : Shape) (ok : IsShape k) (ws : List ℕ) (are : AreFirst k ws) where
   version_zero : get_or ws VERSION 0 ≡ 0
