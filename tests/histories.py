@@ -318,7 +318,7 @@ def pairs_seen(answered: Answered) -> list[Pair]:
     return answered.pairs
 
 
-def check_order_of_puts(shared: list[bytes], answers: list[list[Answered]]) -> None:
+def check_order_of_puts(answers: list[list[Answered]]) -> None:
     """Nobody sees a value that a lane put to a key once it has seen a later one of this lane, or put or taken it there
     by itself. Each value is the putter's number and that of the put."""
     for lane in answers:
@@ -404,7 +404,7 @@ def check_big(run: Run, tally: Tally) -> str:
     tally.count(answers)
     known = [check_own(own, lane) for own, lane in zip(run.own, answers)]
     check_values(run, answers)
-    check_order_of_puts(run.shared, answers)
+    check_order_of_puts(answers)
     there = check_counts(run.shared, answers)
     own = check_counts(list(itertools.chain(*run.own)), answers)
     if own != sum(map(len, known)):

@@ -492,6 +492,33 @@ def asked_sessions_end(worm: str) -> str:
 
 
 @case
+def an_address_of_version_6(worm: str) -> str:
+    try:
+        with socket.socket(socket.AF_INET6) as probe:
+            probe.bind(("::1", 0))
+            port = probe.getsockname()[1]
+    except OSError:
+        return "not tried: this machine has no such address"
+    process = started(worm, f"[::1]:{port}", "--sessions=1", *SMALL)
+    try:
+        until = time.monotonic() + PATIENCE
+        while True:
+            try:
+                with Connection("::1", port, PATIENCE) as client:
+                    same(client.put(b"a", b"1"), True, "a put")
+                break
+            except ConnectionRefusedError:
+                if time.monotonic() > until:
+                    raise
+                time.sleep(0.01)
+        same(process.wait(PATIENCE), 0, "status")
+    finally:
+        process.kill()
+        process.communicate()
+    return "a client at ::1 is served"
+
+
+@case
 def a_port_in_use(worm: str) -> str:
     with server(worm) as running:
         for address in (f"{HOST}:{running.port}", "256.0.0.1:7", "nowhere", f"{HOST}:99999"):
