@@ -30,6 +30,9 @@ COLUMNS = [
     "of it reading, s",
 ]
 
+# What must be above 0 in a round.
+SERVING = ["worm", "peer", "worm processor", "peer processor"]
+
 
 @dataclass(frozen=True)
 class Mix:
@@ -92,12 +95,13 @@ def lanes_table(worm: str, peer: str, plan: Plan) -> list[dict[str, float | str]
             inputs = write_inputs(mix, lanes, count)
             words = {"worm": [worm, "lanes", str(lanes), *WIDE], "peer": [peer, "lanes", str(lanes)]}
             check(words, inputs["all"], lanes, mix, count)
-            made = plan.rounds_of(lambda: served(words, inputs))
-            table.row(cells(mix, lanes, count, made), made)
-            rows.append(
-                {"mix": mix.name, "lanes": lanes}
-                | {program: count / made.median(program) / 1e6 for program in ("worm", "peer")}
-            )
+            made = plan.rounds_of(lambda: served(words, inputs)).above_zero(SERVING)
+            if made.kept:
+                table.row(cells(mix, lanes, count, made), made)
+                speeds = {program: count / made.median(program) / 1e6 for program in words}
+                rows.append({"mix": mix.name, "lanes": lanes} | speeds)
+            else:
+                table.row([mix.name, str(lanes), "not measured"], made)
             for path in inputs.values():
                 os.remove(path)
     table.close()
@@ -112,9 +116,8 @@ def served(words: dict[str, list[str]], inputs: dict[str, str]) -> Numbers:
     }
     for program in words:
         (clock, processor), (rest, rest_processor) = times[program, "all"], times[program, "rest"]
-        # A time that isn't above the rest's can't be, and would make a ratio that means nothing.
-        found[program] = max(clock - rest, 1e-4)
-        found[program + " processor"] = max(processor - rest_processor, 1e-4)
+        found[program] = clock - rest
+        found[program + " processor"] = processor - rest_processor
         found[program + " rest"] = rest
         found[program + " reading"] = times[program, "reading"][0]
     return found

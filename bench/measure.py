@@ -9,7 +9,7 @@ import subprocess
 import sys
 import time
 from collections.abc import Callable
-from dataclasses import dataclass
+from dataclasses import dataclass, replace
 from typing import IO, NoReturn
 
 HERE = os.path.dirname(os.path.abspath(__file__))
@@ -66,6 +66,12 @@ class Rounds:
     kept: list[Numbers]
     dropped: list[float]
     is_busy: bool
+    unusable: int = 0
+
+    def above_zero(self, names: list[str]) -> Rounds:
+        """Without the rounds in which one of these isn't above 0, as a difference of times that stray may be."""
+        usable = [numbers for numbers in self.kept if all(numbers[name] > 0 for name in names)]
+        return replace(self, kept=usable, unusable=len(self.kept) - len(usable))
 
     def of(self, name: str) -> list[float]:
         return [numbers[name] for numbers in self.kept]
@@ -136,6 +142,9 @@ class Table:
         kept = sum(len(rounds.kept) for rounds in self.rounds)
         loads = f"load {self.start} at the start, {load()} at the end"
         print(f"\n{machine()}; {loads}; {kept} rounds in {len(self.rounds)} rows.")
+        unusable = sum(rounds.unusable for rounds in self.rounds)
+        if unusable:
+            print(f"Not used: {unusable} rounds, in which serving took no longer than what is taken off.")
         if dropped:
             print(f"Dropped: {len(dropped)} rounds, in which others took {least_and_most(dropped)} of the processors.")
         if busy:
