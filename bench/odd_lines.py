@@ -1,7 +1,9 @@
 #!/usr/bin/env python3
 """Gives the program and the peer the same random lines, odd ones among them, in pieces that are cut anywhere, and
-compares what they write. `odd_lines.py [ROUNDS [SEED]]`; it ends with `odd lines: all outputs are equal`, or keeps the
-input of which they differ and ends with status 1. The environment's WORM and PEER name other binaries."""
+compares what they write. `odd_lines.py [ROUNDS [SEED]] [--lanes]`; it ends with `odd lines: all outputs are equal`, or
+keeps the input of which they differ and ends with status 1. The environment's WORM and PEER name other binaries.
+
+With `--lanes` the lines go to three lanes, or to none. Lane 0 has all that use the map, so that there is one answer."""
 
 import os
 import random
@@ -10,6 +12,7 @@ import sys
 
 from measure import BUILD, end
 from run import build_peer, find_worm
+from scripts import NARROW
 
 # Keys and values as lines have them: short and long, at each limit, with escapes whole and torn, and other bytes.
 BYTES = [b"a", b"b", b"0", b"~", b"%", b"*", b"%2A", b"%2a", b"%4", b"%zz", b"%00", b"%0D", b"%20", b"\x00", b"\x7f", b"\xff", b"\r"]
@@ -66,6 +69,27 @@ def line(draw):
     return b" ".join(words) + draw.choice([b"", b"", b"", b"\r", b"\r\r"])
 
 
+# What lines of lanes begin with: lane 0, as it may be written, and no lane.
+LANE_0 = [b"0 "] * 12 + [b"00 ", b"000 "]
+NO_LANE = [b"3 ", b"0000 ", b"", b" ", b"x ", b"-0 ", b"+0 ", b"0x ", b"0\t", b"64 ", b"999 ", b"1000 ", b"%30 ", b"\xff "]
+# What the other lanes have: faults and nothing, which use no map.
+OTHERS = [b"1", b"1 ", b"2 GET", b"1 \r", b"2\r", b"2 get a", b"1 PUT a", b"02 SCAN a b x", b"1  ", b"002 SCAN b a 1"]
+
+
+def lane_line(draw):
+    kind = draw.randrange(20)
+    if kind < 14:
+        return draw.choice(LANE_0) + line(draw)
+    return draw.choice(OTHERS) if kind < 17 else draw.choice(NO_LANE) + line(draw)
+
+
+def lanes_script(draw):
+    lines = [lane_line(draw) for _ in range(draw.choice([1, 10, 300, 3_000]))]
+    if draw.randrange(3) == 0:
+        lines.insert(draw.randrange(len(lines) + 1), draw.choice([b"0 QUIT", b"1 QUIT\r"]))
+    return b"\n".join(lines) + draw.choice([b"", b"\n"])
+
+
 def script(draw):
     lines = [line(draw) for _ in range(draw.choice([1, 10, 300, 3_000]))]
     if draw.randrange(3) == 0:
@@ -74,7 +98,8 @@ def script(draw):
 
 
 def answer(program, pieces):
-    process = subprocess.Popen(program, stdin=subprocess.PIPE, stdout=open(os.path.join(BUILD, "odd.out"), "wb"))
+    with open(os.path.join(BUILD, "odd.out"), "wb") as output:
+        process = subprocess.Popen(program, stdin=subprocess.PIPE, stdout=output, stderr=subprocess.DEVNULL)
     try:
         for piece in pieces:
             process.stdin.write(piece)
@@ -99,14 +124,16 @@ def cut(draw, bytes):
 
 
 def main():
-    rounds = int(sys.argv[1]) if len(sys.argv) > 1 else 300
-    seed = int(sys.argv[2]) if len(sys.argv) > 2 else 1
+    words = [word for word in sys.argv[1:] if word != "--lanes"]
+    rounds = int(words[0]) if words else 300
+    seed = int(words[1]) if len(words) > 1 else 1
     os.makedirs(BUILD, exist_ok=True)
-    peer = build_peer()
-    worm = find_worm()
+    peer, worm, make = build_peer(), find_worm(), script
+    if "--lanes" in sys.argv:
+        peer, worm, make = [peer[0], "lanes", "3"], [worm[0], "lanes", "3", *NARROW], lanes_script
     for at in range(seed, seed + rounds):
         draw = random.Random(at)
-        bytes = script(draw)
+        bytes = make(draw)
         if answer(worm, cut(draw, bytes)) != answer(peer, cut(draw, bytes)):
             kept = os.path.join(BUILD, f"odd_{at}.txt")
             with open(kept, "wb") as file:

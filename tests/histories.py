@@ -42,6 +42,7 @@ KEYS = 8
 # How many calls a lane makes on keys that all use. Short scripts are searched whole; threads meet in long ones.
 CALLS = [8, 30, 100, 300]
 MOST_PLACES = 200_000
+PROGRESS = 250
 AGAIN = re.compile(
     rb"AGAIN (locked \d+ \d+|changed \d+ \d+ \d+|stale \d+ \d+ \d+|moved \d+ \d+|turn \d+|pinned \d+ \d+|bin \d+"
     rb"|filled \d+ \d+ \d+)"
@@ -440,6 +441,8 @@ def main() -> None:
             check_small(run, tally)
         except Illegal as error:
             keep(run, asked.worm, seed, str(error))
+        if (seed + 1 - asked.seed) % PROGRESS == 0:
+            print(f"{seed + 1 - asked.seed} runs, {time.monotonic() - start:.0f} s", flush=True)
     print(
         f"{asked.runs} runs: {tally.verdicts[Verdict.LEGAL]} legal, {tally.verdicts[Verdict.UNDECIDED]} not decided; in"
         f" {tally.mixed} the lanes weren't one after another; {time.monotonic() - start:.0f} s\n  {tally.text()}"
