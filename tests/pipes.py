@@ -9,6 +9,7 @@ import pty
 import select
 import subprocess
 import sys
+import tempfile
 import termios
 import time
 
@@ -36,8 +37,8 @@ def find_worm():
 WORM = find_worm()
 
 
-def start(**ends):
-    return subprocess.Popen([WORM, "run"], stderr=subprocess.PIPE, **ends)
+def start(command=("run",), **ends):
+    return subprocess.Popen([WORM, *command], stderr=subprocess.PIPE, **ends)
 
 
 def read_until(fd, want):
@@ -193,6 +194,44 @@ def a_folder_as_input_is_a_read_fault():
     process = start(stdin=folder, stdout=subprocess.PIPE)
     os.close(folder)
     return is_same(process.stdout.read(), b"") and is_end(process, 3, b"worm: read fault\n")
+
+
+@case
+def lanes_to_a_full_output_are_a_write_fault():
+    with open("/dev/full", "wb") as full:
+        process = start(("lanes", "2"), stdin=subprocess.PIPE, stdout=full)
+    process.stdin.write(b"0 PUT a 1\n1 GET a\n")
+    process.stdin.close()
+    return is_end(process, 4, b"worm: write fault\n")
+
+
+@case
+def lanes_of_a_folder_are_a_read_fault():
+    folder = os.open("/tmp", os.O_RDONLY)
+    process = start(("lanes", "2"), stdin=folder, stdout=subprocess.PIPE)
+    os.close(folder)
+    return is_same(process.stdout.read(), b"") and is_end(process, 3, b"worm: read fault\n")
+
+
+def lanes_of(length):
+    """Two lanes, whose input are so many bytes of lines that name no lane."""
+    with tempfile.TemporaryFile() as script:
+        script.write((b"x" * 4_095 + b"\n") * (length // 4_096) + b"x" * (length % 4_096))
+        script.seek(0)
+        return start(("lanes", "2"), stdin=script, stdout=subprocess.PIPE)
+
+
+@case
+def lanes_take_almost_64_mib():
+    process = lanes_of(67_108_863)
+    want = b"ERR 7 lane\n" * 16_384 + b"LANE 0\nLANE 1\n"
+    return is_same(process.stdout.read() == want, True) and is_end(process, 0, b"")
+
+
+@case
+def lanes_take_no_more():
+    process = lanes_of(67_108_864)
+    return is_same(process.stdout.read(), b"") and is_end(process, 7, b"worm: input too long\n")
 
 
 @case
