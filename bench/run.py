@@ -78,7 +78,7 @@ def main() -> None:
         calls_table(worm, peer)
     if of_lanes and of_server:
         print(f"\nbench: drawn as {os.path.relpath(draw(of_lanes, of_server))}")
-    print("\nbench: all outputs are equal")
+    print("\nbench: all outputs are equal" if {"sessions", "lanes"} & set(tables) else "\nbench: all replies were counted")
 
 
 if __name__ == "__main__":
