@@ -69,6 +69,8 @@ locks k n id m leaf word before lane near is no-holder mine-lane small s o wide 
     let c : Cell = free (word_of t.0) f.0 in
     let cell : get_elem? o.cells leaf ≡ some c = t.1 ∙ ap some f.1 in
     let has-map : f.0.map ≡ inside (span o.now leaf) (after o.log) = o.shares leaf c cell in
+    let spans : (x : ℕ) (A : Anchors) → HasNote m.0 x A → before / 256 ≤ x → span A leaf ≡ span o.now leaf = λ x A noted le.
+    (o.notes id m.0 at noted.0 (note_of x A noted.1) noted.2).spans leaf (expected c) (at_map expected o.cells leaf c cell) (let same = ap (λ (y : ℕ). y / 256) bare in omega arith) in
     let h : Holding = newly_held before lane f.0 in
     let w : View = locked word leaf before lane f.0 o.log m.0 in
     let date : (before + lane + 1) / 256 ≡ word_of t.0 / 256 = omega arith in
@@ -91,7 +93,8 @@ locks k n id m leaf word before lane near is no-holder mine-lane small s o wide 
           sees = sees k s o id m.0 at;
           after = refl;
           has = get_or-set_same m.0.held leaf (Some h) None (let many = p.many in let long = ap length (o.held id m.0 at).0 ∙ length-map o.cells (mine id) in omega arith);
-          is_part = λ x A noted le. has-map ∙ ap (λ z. inside z (after o.log)) (sym ((o.notes id m.0 at noted.0 (note_of x A noted.1) noted.2).spans leaf (expected c) (at_map expected o.cells leaf c cell) (let same = ap (λ (y : ℕ). y / 256) bare in omega arith)));
+          is_part = λ x A noted le. has-map ∙ ap (λ z. inside z (after o.log)) (sym (spans x A noted le));
+          one_span = λ x y A B noted also le ge. spans x A noted le ∙ sym (spans y B also ge);
           few = let y = ap length has-map in let z = o.counted.few leaf in omega arith;
           salt = f.2;
         };

@@ -45,7 +45,7 @@ pub accounts : (k : Shape) (s : St) (o : Kept k s) (id : ℕ) (v : View) → get
 accounts k s o id v at sole = subst (λ h. IsCounted k (get_or s.words 0 0) o.now h) ((sees k s o id v at).sole sole) o.counted
 
 -- the last elements of two lists that are the same are the same
-same_last : {A : Type 0} (a b : List A) (x y : A) → a ++ x ∷ [] ≡ b ++ y ∷ [] → x ≡ y
+pub same_last : {A : Type 0} (a b : List A) (x y : A) → a ++ x ∷ [] ≡ b ++ y ∷ [] → x ≡ y
 same_last [] [] x y e = cc
 same_last [] (z ∷ b) x y e = let n = ap length e in let m = length-append b (y ∷ []) in absurd (omega arith)
 same_last (z ∷ a) [] x y e = let n = ap length e in let m = length-append a (x ∷ []) in absurd (omega arith)

@@ -100,6 +100,10 @@ HasNote v n A = IsNoted v.notes n A
 abbrev pub IsPart : View → ℕ → ℕ → List Entry → Map → Type 0
 IsPart v leaf expected log m = (n : ℕ) (A : Anchors) → HasNote v n A → expected ≤ n → m ≡ inside (span A leaf) (after log)
 
+-- the leaf has one span by all notes that aren't older than it
+abbrev pub HasOneSpan : View → ℕ → ℕ → Type 0
+HasOneSpan v leaf expected = (n m : ℕ) (A B : Anchors) → HasNote v n A → HasNote v m B → expected ≤ n → expected ≤ m → span A leaf ≡ span B leaf
+
 pub record Locked (k : Shape) (word leaf before lane : ℕ) (m n : Sat) : Type 0 where
   pub log : List Entry
   pub content : Content
@@ -107,6 +111,7 @@ pub record Locked (k : Shape) (word leaf before lane : ℕ) (m n : Sat) : Type 0
   pub after : n ≡ (locked word leaf before lane content log m.0, m.1)
   pub has : held_at n.0 leaf ≡ Some (newly_held before lane content)
   pub is_part : IsPart m.0 leaf (before / 256) log (shown content)
+  pub one_span : HasOneSpan m.0 leaf (before / 256)
   pub few : length (shown content) ≤ k.hard
   pub salt : content.salt ≡ k.salt
 

@@ -84,6 +84,7 @@ took k leaf seen searched lane m n w held near small free known hit out leaf-is 
         dated = let z = ap (λ (h : Holding). h.word / 256) t.1 in omega arith;
       };
       is_part = λ n A noted le. ap shown same ∙ (hit.is_part n A noted le ∙ (λ i. inside (span A leaf) (history_map (sym saw i))));
+      one_span = hit.one_span;
       few = let z = hit.few in let y = ap (λ c. length (shown c)) same in omega arith;
       salt = ap (λ (c : Content). c.salt) same ∙ hit.salt;
     }

@@ -6,7 +6,7 @@ use Rattle.board_rule.specs.declared.view.View.{View}
 use Rattle.board_rule.specs.Cells.{Map, shown, Holding, away}
 use Rattle.board_rule.specs.Rule.{leaf_word}
 use Rattle.board_rule.specs.Views.{held_at, has, HasAway}
-use Rattle.board_rule.specs.Steps.{Sees, IsPart}
+use Rattle.board_rule.specs.Steps.{Sees, IsPart, HasOneSpan}
 use Rattle.leaf_versions.specs.declared.held.Held.{Held}
 
 -- the view holds this leaf, with its content out and this date
@@ -40,5 +40,6 @@ pub record Took (k : Shape) (leaf seen searched lane : ℕ) (v w : View) (held :
   pub has : held_at w leaf ≡ Some (taken_out (seen + lane + 1) (shown held.content))
   pub is_held : IsHeld k w held
   pub is_part : IsPart v leaf (seen / 256) w.seen (shown held.content)
+  pub one_span : HasOneSpan v leaf (seen / 256)
   pub few : length (shown held.content) ≤ k.hard
   pub salt : held.content.salt ≡ k.salt
