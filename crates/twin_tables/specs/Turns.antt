@@ -9,8 +9,8 @@ use Rattle.meta_trie.specs.declared.lags.Lag.TheVariants.{Same as NoChange}
 use Rattle.meta_trie.specs.Stands.{StandsFor}
 use Rattle.board_rule.specs.declared.view.View.{View}
 use Rattle.board_rule.specs.Pins.{Spare, lag_home}
-use Rattle.board_rule.specs.Views.{TURN, PINS, looked, has_taken, noted, cleared}
-use Rattle.board_rule.specs.Steps.{anchors_now, HasSpare, kept_spare, Settled}
+use Rattle.board_rule.specs.Views.{VERSION, TURN, PINS, looked, has_taken, noted, cleared}
+use Rattle.board_rule.specs.Steps.{Knew, anchors_now, HasSpare, kept_spare, Settled}
 
 -- the view has the turn, and loaded or published this version under it
 abbrev pub HasTurn : ℕ → View → Type 0
@@ -21,6 +21,7 @@ pub record Takes (lane version : ℕ) (v w : View) : Type 0 where
   pub anchors : Anchors
   pub are : AreAnchors anchors
   pub bounded : version < 2 ^ 56
+  pub knew : Knew VERSION v version
   pub after : w ≡ noted version anchors (has_taken lane v)
 
 -- a lane was found to have the turn, and it isn't this one if this one hasn't the turn

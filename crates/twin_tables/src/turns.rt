@@ -2,7 +2,7 @@
 
 ghost use Rattle.std.specs.Prelude.{◌≡◌, ◌+◌, ◌-◌, ◌<◌, ◌^◌, true, false, None, IsSome, IsOk, OnOk, IfOk, IfErr};
 ghost use Rattle.map_model.specs.declared.refusal.TableFull.TheVariants.{Versions};
-ghost use Rattle.board_rule.specs.Steps.{Grew, NoneAhead, SpareSettled, kept_spare, lag_of, Publishable, changed};
+ghost use Rattle.board_rule.specs.Steps.{Accounts, Grew, anchors_now, NoneAhead, SpareSettled, kept_spare, lag_of, Publishable, changed};
 ghost use Rattle.board_rule.specs.Views.{has_given};
 ghost use Rattle.board_rule.specs.Passes.{view, IsOf, lane_of};
 ghost use Rattle.twin_tables.specs.Turns.{HasTurn, Takes, TurnTaken, Clears, SparePinned, spare_of};
@@ -45,7 +45,7 @@ impl Turn {
 
 /// Takes the turn where no lane has it, and then loads the version. Else the answer is `Turn` with
 /// the lane that was found to have it. It takes no memory, and isn't refused to a pass that is the
-/// only one and hasn't the turn.
+/// only one and hasn't the turn. What such a pass has seen accounts for the version.
 pub fn take_turn(pass: &mut Pass, board: &Board) -> Result<Turn, Again>
     requires of { IsOf board.now pass.old }
     requires lane { IsSome pass.old.lane }
@@ -54,6 +54,7 @@ pub fn take_turn(pass: &mut Pass, board: &Board) -> Result<Turn, Again>
     ensures grew { Grew (view pass.old) (view pass.new) }
     ensures taken { IfOk result (λ turn. Takes (lane_of pass.old.lane) turn (view pass.old) (view pass.new)) }
     ensures has { IfOk result (λ turn. HasTurn turn (view pass.new)) }
+    ensures counted { IfOk result (λ turn. Accounts board.now.shape (view pass.old) turn (anchors_now (view pass.new))) }
     ensures refused { IfErr result (λ again. TurnTaken (lane_of pass.old.lane) again (view pass.old) (view pass.new)) }
     ensures sole { (view pass.old).sole ≡ true → (view pass.old).turn ≡ false → IsOk result }
 {
