@@ -1,5 +1,5 @@
 -- The whole call: from the views between its parts to what it tells.
-use Rattle.std.proofs.Common.{◌≡◌, ℕ, ◌+◌, ◌%◌, ◌^◌, ◌<◌, ◌≤◌, List, [], ◌∷◌, ◌++◌, append_assoc, length, length-append, get_or, is_some, Option, Some, None, true, false, Result, Ok, Err, IfOk, IfErr, OnErr, inl, inr, refl, sym, ap, ◌∙◌, subst, arith}
+use Rattle.std.proofs.Common.{◌≡◌, ℕ, ◌+◌, ◌%◌, ◌^◌, ◌<◌, ◌≤◌, List, [], ◌∷◌, ◌++◌, append_assoc, length, length-append, get_or, get_or-set_other, is_some, Option, Some, None, true, false, Result, Ok, Err, IfOk, IfErr, OnErr, inl, inr, refl, sym, ap, ◌∙◌, subst, arith}
 use mathlib.Core.List.{IsPrefix}
 use Rattle.std.proofs.lemmas.List.{append-nil}
 use mathlib.Core.Bool.{false≢true}
@@ -25,14 +25,15 @@ use Rattle.board_rule.specs.Cells.{Holding}
 use Rattle.board_rule.specs.Notes.{Note, note_of}
 use Rattle.board_rule.specs.Pins.{Spare}
 use Rattle.board_rule.specs.Views.{VERSION, TURN, PINS, cleared, held_at, has_given, has_taken, noted}
-use Rattle.board_rule.specs.Steps.{Grew, HasNote, NoneAhead, SpareSettled, anchors_now}
+use Rattle.board_rule.specs.Steps.{Accounts, Grew, HasNote, Knew, NoneAhead, SpareSettled, anchors_now}
+use Rattle.board_rule.proofs.Turning.{note_is}
 use Rattle.twin_tables.specs.Turns.{HasTurn, Takes, TurnTaken, SparePinned, UpToDate}
 use Rattle.split_merge.specs.declared.answers.Tended.{Tended}
 use Rattle.split_merge.specs.declared.answers.TendFault.{TendFault}
 use Rattle.split_merge.specs.declared.answers.TendFault.TheVariants.{Again as Hindered, Table as NoRoom, NoMemory}
 use Rattle.split_merge.specs.Faults.{IsHinderedNear, IsFull, IsLeft, IsLeftSo, IsTendFault}
 use Rattle.split_merge.specs.Spares.{InTurn}
-use Rattle.split_merge.specs.Staying.{Goes, Stays, NewLook}
+use Rattle.split_merge.specs.Staying.{Goes, IsAbreast, Stays, NewLook}
 use Rattle.split_merge.specs.Tending.{Did, Done, Finished, IsIdle, Loads, Tends, size_then}
 use Rattle.anchor_rules.specs.Neighbours.{IsBefore, IsBehind}
 use Rattle.anchor_rules.proofs.Neighbours.{before_live, behind_live}
@@ -96,8 +97,14 @@ settled_none k v bare sp is = absurd (none_spare sp (sym bare ∙ is))
 pub none_ahead : (v : View) → ((i : ℕ) → held_at v i ≡ None) → NoneAhead v
 none_ahead v free i h is = absurd (none_held h (sym (free i) ∙ is))
 
-taken_goes : (v : View) (lane n : ℕ) (A : Anchors) → Goes v (noted n A (has_taken lane v))
-taken_goes v lane n A = record {
+-- the version that was loaded under the turn is the last one noted
+noted_abreast : (v : View) (lane n : ℕ) (A : Anchors) → Knew VERSION v n → IsAbreast (noted n A (has_taken lane v))
+noted_abreast v lane n A knew m B e =
+    let is = note_is (n, A) (m, B) e in
+    ((v.notes, false, λ i. v.notes ++ note_of (is i).0 (is i).1 false ∷ []), λ sole. (let word = get_or-set_other v.words 1 0 (lane + 1) 0 (λ e. absurd (omega arith)) in let found = knew sole in let same = ap (λ z. z.0) is in omega (arith, word, found, same)))
+
+taken_goes : (v : View) (lane n : ℕ) (A : Anchors) → Knew VERSION v n → Goes v (noted n A (has_taken lane v))
+taken_goes v lane n A knew = record {
   lane = refl;
   sole = refl;
   drawn = refl;
@@ -107,15 +114,22 @@ taken_goes v lane n A = record {
   pin = refl;
   looks = ((TURN, 0) ∷ (VERSION, n) ∷ [], sym (append_assoc v.looks ((TURN, 0) ∷ []) ((VERSION, n) ∷ [])));
   sees = inl refl;
+  abreast = λ _. noted_abreast v lane n A knew;
 }
 
+pub taken_abreast : (lane n : ℕ) (v u : View) → Takes lane n v u → IsAbreast u
+taken_abreast lane n v u takes = subst IsAbreast (sym takes.after) (noted_abreast v lane n takes.anchors takes.knew)
+
+no_current : (x : ℕ × Anchors) → None ≡ Some x → ⊥
+no_current x e = absurd (cc)
+
 given_goes : (v : View) → Goes v (has_given v)
-given_goes v = record { lane = refl; sole = refl; drawn = refl; room = refl; given = refl; ended = refl; pin = refl; looks = prefix_same v.looks v.looks refl; sees = inl refl }
+given_goes v = record { lane = refl; sole = refl; drawn = refl; room = refl; given = refl; ended = refl; pin = refl; looks = prefix_same v.looks v.looks refl; sees = inl refl; abreast = λ _ n A e. absurd (no_current (n, A) e) }
 
 -- the turn was taken: from the view v to u. Under it: to w. And it was given: to x
 module _ (k : Shape) (key : List ℕ) (lane n : ℕ) (v u w x : View) (takes : Takes lane n v u) (has : HasTurn n u) (finished : Finished k u w) (gave : x ≡ has_given w) where
   begun : Goes v u
-  begun = subst (Goes v) (sym takes.after) (taken_goes v lane n takes.anchors)
+  begun = subst (Goes v) (sym takes.after) (taken_goes v lane n takes.anchors takes.knew)
 
   ended : Goes w x
   ended = subst (Goes w) (sym gave) (given_goes w)
@@ -216,22 +230,35 @@ module _ (k : Shape) (key : List ℕ) (lane n : ℕ) (v u w x : View) (takes : T
       by (NoRoom (Versions version)) f = (n, takes.anchors, all, f)
       by NoMemory f = tt
 
-  -- which anchors the first new note has
-  pub whole_anchors : (more : List Note) → w.notes ≡ u.notes ++ more → (m : ℕ) (A : Anchors) (rest : List Note) → x.notes ≡ v.notes ++ note_of m A false ∷ rest → A ≡ anchors_now u
-  whole_anchors more notes m A rest e = head (note_of m A false) (note_of n takes.anchors false) rest more (cancel v.notes (note_of m A false ∷ rest) (note_of n takes.anchors false ∷ more) (sym e ∙ (loaded more notes).notes)) ∙ sym now_is
+  -- which note the first new one is
+  first_new : (more : List Note) → w.notes ≡ u.notes ++ more → (m : ℕ) (A : Anchors) (rest : List Note) → x.notes ≡ v.notes ++ note_of m A false ∷ rest → note_of m A false ≡ note_of n takes.anchors false
+  first_new more notes m A rest e = head (note_of m A false) (note_of n takes.anchors false) rest more (cancel v.notes (note_of m A false ∷ rest) (note_of n takes.anchors false ∷ more) (sym e ∙ (loaded more notes).notes))
     where
-      head : (a b : Note) (r s : List Note) → a ∷ r ≡ b ∷ s → a.anchors ≡ b.anchors
-      head a b r s e = ap (λ (o : Note). o.anchors) (first a b r s e)
-        where
-          first : (a b : Note) (r s : List Note) → a ∷ r ≡ b ∷ s → a ≡ b
-          first a b r s e = cc
+      head : (a b : Note) (r s : List Note) → a ∷ r ≡ b ∷ s → a ≡ b
+      head a b r s e = cc
 
       cancel : (l a b : List Note) → l ++ a ≡ l ++ b → a ≡ b
       cancel [] a b e = e
       cancel (y ∷ l) a b e = cancel l a b (cc)
 
+  -- its anchors
+  pub whole_anchors : (more : List Note) → w.notes ≡ u.notes ++ more → (m : ℕ) (A : Anchors) (rest : List Note) → x.notes ≡ v.notes ++ note_of m A false ∷ rest → A ≡ anchors_now u
+  whole_anchors more notes m A rest e = ap (λ (o : Note). o.anchors) (first_new more notes m A rest e) ∙ sym now_is
+
+  -- what a sole view had seen accounts for it
+  pub whole_counted : Accounts k v n (anchors_now u) → (more : List Note) → w.notes ≡ u.notes ++ more → (m : ℕ) (A : Anchors) (rest : List Note) → x.notes ≡ v.notes ++ note_of m A false ∷ rest → AreAnchors A × Accounts k v m A
+  whole_counted all more notes m A rest e =
+      let is = whole_anchors more notes m A rest e in (
+        subst AreAnchors (sym (is ∙ now_is)) takes.are,
+        subst (λ i. Accounts k v i A) (ap (λ (o : Note). o.version) (sym (first_new more notes m A rest e))) (subst (λ B. Accounts k v n B) (sym is) all),
+      )
+
   pub whole_noted : (more : List Note) → w.notes ≡ u.notes ++ more → x.notes ≡ v.notes → ⊥
   whole_noted more notes e = absurd (let z = ap length ((sym e) ∙ (loaded more notes).notes) in omega (arith, length-append v.notes (note_of n takes.anchors false ∷ more)))
+
+-- no note came
+pub none_noted : (v w : View) (a : Note) (more : List Note) → w.notes ≡ v.notes → w.notes ≡ v.notes ++ a ∷ more → ⊥
+none_noted v w a more same e = absurd (let z = ap length (sym same ∙ e) in omega (arith, length-append v.notes (a ∷ more)))
 
 -- the turn was another lane's
 pub turned_away : (k : Shape) (key : List ℕ) (lane : ℕ) (v w : View) (again : Again) → v.turn ≡ false → TurnTaken lane again v w → IsTendFault k key lane v w (Hindered again)
@@ -279,7 +306,7 @@ kept_done k n A leaf count v u w p q notes counted few many = record {
 
 cleared_goes : (v : View) (word found : ℕ) (sp : Spare) → Stays v (cleared word found sp v)
 cleared_goes v word found sp = record {
-  goes = record { lane = refl; sole = refl; drawn = refl; room = refl; given = refl; ended = refl; pin = refl; looks = ((word, found) ∷ [], refl); sees = inl refl };
+  goes = record { lane = refl; sole = refl; drawn = refl; room = refl; given = refl; ended = refl; pin = refl; looks = ((word, found) ∷ [], refl); sees = inl refl; abreast = λ a. a };
   turn = refl;
   current = refl;
   notes = refl;

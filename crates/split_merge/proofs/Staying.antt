@@ -1,5 +1,5 @@
 -- What stays over two calls stays over both, and where a look stands afterwards.
-use Rattle.std.proofs.Common.{◌≡◌, ℕ, ◌≤◌, List, [], ◌∷◌, ◌++◌, length, length-append, append_assoc, true, sym, refl, ap, ◌∙◌, subst, inl, inr, arith}
+use Rattle.std.proofs.Common.{◌≡◌, ℕ, ◌≤◌, List, [], ◌∷◌, ◌++◌, length, length-append, append_assoc, get_or, true, sym, refl, ap, ◌∙◌, subst, inl, inr, arith}
 use Rattle.std.proofs.lemmas.List.{append-nil}
 use mathlib.Core.Option.{some}
 use mathlib.Core.List.{IsPrefix}
@@ -11,7 +11,8 @@ use Rattle.board_rule.specs.declared.view.View.{View}
 use Rattle.row_words.specs.declared.shape.Shape.{Shape}
 use Rattle.board_rule.specs.Steps.{Grew, Sees}
 use Rattle.twin_tables.specs.Views.{OnlySpare}
-use Rattle.split_merge.specs.Staying.{SeesOn, Goes, Stays, NewLook}
+use Rattle.board_rule.specs.Notes.{IsLastNote}
+use Rattle.split_merge.specs.Staying.{IsAbreast, SeesOn, Goes, Stays, NewLook}
 
 pub prefix_same : {A : Type 0} (a b : List A) → b ≡ a → IsPrefix a b
 prefix_same a b e = ([], append-nil a ∙ sym e)
@@ -22,7 +23,7 @@ prefix_on a b c p q = (p.0 ++ q.0, sym (append_assoc a p.0 q.0) ∙ (ap (λ l. l
 prefix_at : {A : Type 0} (a b : List A) (i : ℕ) (x : A) → IsPrefix a b → get_elem? a i ≡ some x → get_elem? b i ≡ some x
 prefix_at a b i x p e = ap (λ l. get_elem? l i) (sym p.1) ∙ at_longer a p.0 i x e
 
-prefix_length : {A : Type 0} (a b : List A) → IsPrefix a b → length a ≤ length b
+pub prefix_length : {A : Type 0} (a b : List A) → IsPrefix a b → length a ≤ length b
 prefix_length a b p = omega (arith, length-append a p.0, ap length p.1)
 
 -- what is seen begins with what was seen
@@ -54,6 +55,12 @@ sees_on v w x lane ended sole (inl e) (inl f) = inl (f ∙ e)
 sees_on v w x lane ended sole (inr t) (inl f) = inr (subst (Sees v) (sym f) t)
 sees_on v w x lane ended sole p (inr s) = inr (sees_from v w x.seen lane ended sole p s)
 
+-- a view with the notes, the turn and the version of another one is abreast of them as that one is
+pub abreast_on : (v w : View) → w.notes ≡ v.notes → w.current ≡ v.current → w.sole ≡ v.sole → get_or w.words 0 0 ≡ get_or v.words 0 0 → IsAbreast v → IsAbreast w
+abreast_on v w notes now sole word abreast n A e =
+    let last = abreast n A (sym now ∙ e) in
+    (subst (λ l. IsLastNote l n A) (sym notes) last.0, λ alone. (let le = last.1 (sym sole ∙ alone) in omega (arith, word, le)))
+
 pub goes_on : (v w x : View) → Goes v w → Goes w x → Goes v x
 goes_on v w x p q = record {
   lane = q.lane ∙ p.lane;
@@ -65,10 +72,11 @@ goes_on v w x p q = record {
   pin = q.pin ∙ p.pin;
   looks = prefix_on v.looks w.looks x.looks p.looks q.looks;
   sees = sees_on v w x p.lane p.ended p.sole p.sees q.sees;
+  abreast = λ a. q.abreast (p.abreast a);
 }
 
 pub goes_same : (v : View) → Goes v v
-goes_same v = record { lane = refl; sole = refl; drawn = refl; room = refl; given = refl; ended = refl; pin = refl; looks = prefix_same v.looks v.looks refl; sees = inl refl }
+goes_same v = record { lane = refl; sole = refl; drawn = refl; room = refl; given = refl; ended = refl; pin = refl; looks = prefix_same v.looks v.looks refl; sees = inl refl; abreast = λ a. a }
 
 pub stays_on : (v w x : View) → Stays v w → Stays w x → Stays v x
 stays_on v w x p q = record { goes = goes_on v w x p.goes q.goes; turn = q.turn ∙ p.turn; current = q.current ∙ p.current; notes = q.notes ∙ p.notes }
@@ -89,6 +97,7 @@ spare_stays k v w o = record {
     pin = o.pin;
     looks = o.same.grew.looks;
     sees = inl o.same.seen;
+    abreast = abreast_on v w o.notes o.current o.same.sole (o.words 0 (omega arith));
   };
   turn = o.turn;
   current = o.current;
