@@ -11,6 +11,7 @@ use Rattle.leaf_spans.proofs.Spreads.{target_live}
 use Rattle.meta_trie.proofs.LeafRows.{live_leaf}
 use Rattle.board_rule.specs.declared.view.View.{View}
 use Rattle.board_rule.specs.Cells.{shown, Holding}
+use Rattle.board_rule.specs.Notes.{IsNoted}
 use Rattle.board_rule.specs.Rule.{leaf_word}
 use Rattle.board_rule.specs.Views.{looked, has, the_holding}
 use Rattle.board_rule.specs.Steps.{Sees, HasNote, pinned_anchors, pinned_rows}
@@ -125,6 +126,10 @@ opened_by k key version leaf lane seen A v s u w held idle sought look took =
       in_span = (sought.in_span.0, ap (span A) leaf-is ∙ sought.in_span.1, sought.in_span.2);
       is_held = took.is_held;
       dated = let z = took.known in let y = took.this.1 in omega arith;
+      knew = sought.knew;
+      one_span = λ n B also le.
+          ap (span B) leaf-is
+          ∙ (took.one_span n version B A (subst (λ l. IsNoted l n B) (ap (λ (x : View). x.notes) took.after) also) noted (let y = took.this.1 in omega arith) took.known ∙ ap (span A) (sym leaf-is));
       map = ap (λ (h : Holding). h.map) has-is;
       part = took.is_part version A noted took.known ∙ ap (λ i. inside (span A i) (after w.seen)) (sym leaf-is);
       few = took.few;

@@ -32,7 +32,7 @@ pub record IsFork (k : Shape) (n : ℕ) (v w u : View) : Type 0 where
 -- why no fork was made: the pass may make none, and a look found so many lanes given
 abbrev pub IsForkFault : Shape → View → View → ForkFault → Type 0
 IsForkFault k v w (Lanes given cap) = (v.room ≡ 0) × (cap ≡ k.lanes) × (w ≡ looked GIVEN given v)
-IsForkFault k v w NoMemory = w ≡ v
+IsForkFault k v w NoMemory = ⊥
 
 -- what both have seen now begins with what each had seen, and has no further entry of a lane of either
 pub record HaveMet (v u : View) (w x : View) : Type 0 where

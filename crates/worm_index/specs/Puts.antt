@@ -8,7 +8,7 @@ use Rattle.leaf_spans.specs.Spread.{inside}
 use Rattle.map_model.specs.Maps.{find}
 use Rattle.map_model.specs.Calls.{Put}
 use Rattle.map_model.specs.Ordered.{was_put}
-use Rattle.map_model.specs.History.{Entry, after}
+use Rattle.map_model.specs.History.{Entry, IsLegal, after}
 use Rattle.map_model.specs.declared.refusal.Again.{Again as Hindrance}
 use Rattle.map_model.specs.declared.refusal.Again.TheVariants.{Filled}
 use Rattle.map_model.specs.declared.refusal.Full.{Full as Fullness}
@@ -36,6 +36,7 @@ pub record WasCrowded (k : Shape) (key : List ℕ) (v w : View) : Type 0 where
   pub moment : List Entry
   pub before : IsPrefix v.seen moment
   pub behind : IsPrefix moment w.seen
+  pub legal : IsLegal moment
   pub full : length (inside (span anchors (target anchors key)) (after moment)) ≡ k.hard
   pub absent : find (after moment) key ≡ None
 
@@ -94,9 +95,23 @@ IsUnbarred (Crowded leaf item) = Unit {0}
 IsUnbarred (Barred again) = ⊥
 IsUnbarred NoSpace = Unit {0}
 
--- of a sole pass: it is refused for a leaf that was crowded again, and else for no other lane
+-- the leaf wasn't crowded
+abbrev pub IsUncrowded : Tried → Type 0
+IsUncrowded (Done first count) = Unit {0}
+IsUncrowded (Crowded leaf item) = ⊥
+IsUncrowded (Barred again) = Unit {0}
+IsUncrowded NoSpace = Unit {0}
+
+-- no other lane was in the way
 abbrev pub IsSoleFault : PutFault → Type 0
 IsSoleFault (ValueTooLong long) = Unit {0}
 IsSoleFault (Full full) = Unit {0}
-IsSoleFault (Again again) = (leaf : ℕ) × (count : ℕ) × (hard : ℕ) × (again ≡ Filled leaf count hard)
+IsSoleFault (Again again) = ⊥
 IsSoleFault NoMemory = Unit {0}
+
+-- there was room
+abbrev pub IsNotFull : PutFault → Type 0
+IsNotFull (ValueTooLong long) = Unit {0}
+IsNotFull (Full full) = ⊥
+IsNotFull (Again again) = Unit {0}
+IsNotFull NoMemory = Unit {0}

@@ -39,7 +39,8 @@ pub(crate) struct Opened {
     pub(crate) hash: u64,
 }
 
-// Searches the published table for the leaf of a key.
+// Searches the published table for the leaf of a key, and keeps in the pass where the lane's next search
+// begins.
 fn search<L: Ledger>(
     pass: &mut Pass,
     board: &Board,
@@ -58,10 +59,35 @@ fn search<L: Ledger>(
     ensures cost { (n : ℕ) (A : Anchors) → IsLastNoted (view pass.old) (view pass.new) n A → (c : ℕ) → MostInBucket board.now.shape A c → steps.new ≤ steps.old + seek_bound A key.now c }
     ensures within { (b : ℕ) → SearchesWithin board.now.shape key.now (view pass.old) (view pass.new) b → steps.new ≤ steps.old + b }
 {
-    let mut hint = Hint::new();
+    let mut hint = Hint::at(pass.hint());
+    let place = search_from(pass, board, key, &mut hint, steps);
+    pass.set_hint(hint.len());
+    place
+}
+
+// The same by a hint, which learns from the search.
+fn search_from<L: Ledger>(
+    pass: &mut Pass,
+    board: &Board,
+    key: &Key,
+    hint: &mut Hint,
+    steps: &mut Steps<L>,
+) -> Result<Place, Again>
+    requires of { IsOf board.now pass.old }
+    requires lane { IsSome pass.old.lane }
+    requires bare { (view pass.old).pin ≡ None }
+    ensures of { IsOf board.now pass.new }
+    ensures lane { pass.new.lane ≡ pass.old.lane }
+    ensures sought { IfOk result (λ place. (A : Anchors) × IsSought board.now.shape key.now place.version place.leaf A (view pass.old) (view pass.new)) }
+    ensures hash { IfOk result (λ place. place.hash ≡ prefix_hash board.now.shape.salt key.now) }
+    ensures moved { IfErr result (λ again. PinMoved again (view pass.old) (view pass.new)) }
+    ensures sole { (view pass.old).sole ≡ true → IsOk result }
+    ensures cost { (n : ℕ) (A : Anchors) → IsLastNoted (view pass.old) (view pass.new) n A → (c : ℕ) → MostInBucket board.now.shape A c → steps.new ≤ steps.old + seek_bound A key.now c }
+    ensures within { (b : ℕ) → SearchesWithin board.now.shape key.now (view pass.old) (view pass.new) b → steps.new ≤ steps.old + b }
+{
     let mut pinned = pin(pass, board)?;
     let version = pinned.version();
-    let sought = seek_pinned(&mut pinned, key, &mut hint, steps);
+    let sought = seek_pinned(&mut pinned, key, hint, steps);
     pinned.unpin();
     Ok(Place {
         leaf: sought.leaf,

@@ -1,16 +1,19 @@
 //! The put of a key.
 
-ghost use Rattle.std.specs.Prelude.{◌≡◌, ◌+◌, ◌*◌, ◌<◌, ◌≤◌, ℕ, true, IsSome, IfOk, IfErr, OnErr, Err, length};
+ghost use Rattle.std.specs.Prelude.{◌≡◌, ◌+◌, ◌*◌, ◌<◌, ◌≤◌, ◌++◌, ℕ, List, true, IsSome, IfOk, IfErr, OnErr, Err, length};
 ghost use mathlib.Core.List.{IsPrefix};
 ghost use Rattle.key_bytes.specs.declared.limits.TheConstants.{LONGEST_VALUE};
 ghost use Rattle.map_model.specs.Calls.{Put};
+ghost use Rattle.map_model.specs.History.{Entry, IsLegal};
 ghost use Rattle.map_model.specs.Ordered.{was_put};
+ghost use Rattle.history_sizes.specs.Fits.{Fits};
 ghost use Rattle.board_rule.specs.Passes.{lane_of, view, IsOf};
 ghost use Rattle.worm_index.specs.declared.faults.PutFault.TheVariants.{ValueTooLong};
 ghost use Rattle.worm_index.specs.Idle.{IsIdle};
 ghost use Rattle.worm_index.specs.Looks.{SearchesWithin};
 ghost use Rattle.worm_index.specs.Calls.{IsAnswered, IsUnanswered};
-ghost use Rattle.worm_index.specs.Puts.{IsFaultBehind, IsPutFault, IsRefusal, IsSecondFault, IsSoleFault, IsUnbarred, WasTried};
+ghost use Rattle.split_merge.specs.Tending.{IsRoomy};
+ghost use Rattle.worm_index.specs.Puts.{IsFaultBehind, IsNotFull, IsPutFault, IsRefusal, IsSecondFault, IsSoleFault, IsUnbarred, IsUncrowded, WasTried};
 
 use crate::faults::PutFault;
 use crate::index::Index;
@@ -80,6 +83,9 @@ pub fn try_put<L: Ledger>(
     ensures long { LONGEST_VALUE < length value.now → result ≡ Err (ValueTooLong (length value.now)) }
     ensures cause { IfErr result (λ fault. IsPutFault index.now.board.shape key.now value.now (lane_of pass.old.lane) (view pass.old) (view pass.new) fault) }
     ensures sole { (view pass.old).sole ≡ true → IfErr result IsSoleFault }
+    ensures room { (view pass.old).sole ≡ true → (more : List Entry)
+        → Fits index.now.board.shape.values index.now.board.shape.leaves index.now.board.shape.items index.now.board.shape.soft ((view pass.old).seen ++ more)
+        → IfErr result IsNotFull }
 
     // Three searches and five steps, with the greatest bound of the anchors that were loaded.
     ensures cost { (b : ℕ) → SearchesWithin index.now.board.shape key.now (view pass.old) (view pass.new) b → steps.new ≤ steps.old + (3 * b + 5) }
@@ -125,6 +131,9 @@ fn put_item<L: Ledger>(
     ensures unanswered { OnErr result (IsUnanswered (lane_of pass.old.lane) (view pass.old) (view pass.new)) }
     ensures cause { IfErr result (λ fault. IsPutFault board.now.shape key.now value.now (lane_of pass.old.lane) (view pass.old) (view pass.new) fault) }
     ensures sole { (view pass.old).sole ≡ true → IfErr result IsSoleFault }
+    ensures room { (view pass.old).sole ≡ true → (more : List Entry)
+        → Fits board.now.shape.values board.now.shape.leaves board.now.shape.items board.now.shape.soft ((view pass.old).seen ++ more)
+        → IfErr result IsNotFull }
     ensures cost { (b : ℕ) → SearchesWithin board.now.shape key.now (view pass.old) (view pass.new) b → steps.new ≤ steps.old + (3 * b + 5) }
 {
     match put_once(pass, board, key, value, item, steps) {
@@ -160,6 +169,9 @@ fn put_tended<L: Ledger>(
     ensures unanswered { OnErr result (IsUnanswered (lane_of pass.old.lane) (view pass.old) (view pass.new)) }
     ensures cause { IfErr result (λ fault. IsFaultBehind board.now.shape key.now (lane_of pass.old.lane) (view pass.old) (view pass.new) fault) }
     ensures sole { (view pass.old).sole ≡ true → IfErr result IsSoleFault }
+    ensures room { (view pass.old).sole ≡ true → IsLegal (view pass.old).seen → (more : List Entry)
+        → Fits board.now.shape.values board.now.shape.leaves board.now.shape.items board.now.shape.soft ((view pass.old).seen ++ more)
+        → IfErr result IsNotFull }
     ensures notes { IsPrefix (view pass.old).notes (view pass.new).notes }
     ensures within { (b : ℕ) → SearchesWithin board.now.shape key.now (view pass.old) (view pass.new) b → steps.new ≤ steps.old + (2 * b + 4) }
 {
@@ -204,7 +216,8 @@ fn put_again<L: Ledger>(
     ensures answered { IfOk result (λ first. IsAnswered (lane_of pass.old.lane) (Put key.now value.now) (was_put first) (view pass.old) (view pass.new)) }
     ensures unanswered { OnErr result (IsUnanswered (lane_of pass.old.lane) (view pass.old) (view pass.new)) }
     ensures cause { IfErr result (λ fault. IsSecondFault board.now.shape key.now (lane_of pass.old.lane) (view pass.old) (view pass.new) fault) }
-    ensures sole { (view pass.old).sole ≡ true → IfErr result IsSoleFault }
+    ensures sole { (view pass.old).sole ≡ true → IsRoomy board.now.shape key.now (view pass.old) → IfErr result IsSoleFault }
+    ensures room { IfErr result IsNotFull }
     ensures notes { IsPrefix (view pass.old).notes (view pass.new).notes }
     ensures within { (b : ℕ) → SearchesWithin board.now.shape key.now (view pass.old) (view pass.new) b → steps.new ≤ steps.old + (b + 1) }
 {
@@ -240,6 +253,7 @@ fn put_once<L: Ledger>(
     ensures idle { IsIdle (view pass.new) }
     ensures tried { WasTried board.now.shape key.now value.now (lane_of pass.old.lane) (view pass.old) (view pass.new) result }
     ensures sole { (view pass.old).sole ≡ true → IsUnbarred result }
+    ensures roomy { (view pass.old).sole ≡ true → IsRoomy board.now.shape key.now (view pass.old) → IsUncrowded result }
     ensures notes { IsPrefix (view pass.old).notes (view pass.new).notes }
     ensures within { (b : ℕ) → SearchesWithin board.now.shape key.now (view pass.old) (view pass.new) b → steps.new ≤ steps.old + (b + 1) }
 {

@@ -1,4 +1,4 @@
-use Rattle.std.proofs.Common.{inl, inr, refl, ap, arith}
+use Rattle.std.proofs.Common.{inl, inr, ap, arith}
 use Rattle.map_model.specs.declared.refusal.Again.TheVariants.{Filled}
 use Rattle.row_words.specs.declared.shape.Shape.{Shape}
 use Rattle.worm_index.proofs.puts.put_again.Goals as goal
@@ -37,7 +37,7 @@ pub returns-in-NoMemory-clause-within : goal.returns-in-NoMemory-clause-within
 returns-in-NoMemory-clause-within g c b within = let le = c.put_once.ensures.within b within in omega (arith, le)
 
 pub returns-in-Crowded-clause-sole : goal.returns-in-Crowded-clause-sole
-returns-in-Crowded-clause-sole g c sole = (_, _, _, refl)
+returns-in-Crowded-clause-sole g c sole room = absurd (c.in-Crowded.ensures.roomy sole room)
 
 pub returns-in-Hindered-clause-sole : goal.returns-in-Hindered-clause-sole
-returns-in-Hindered-clause-sole g c sole = absurd (c.in-Hindered.ensures.sole sole)
+returns-in-Hindered-clause-sole g c sole room = absurd (c.in-Hindered.ensures.sole sole)

@@ -1,9 +1,11 @@
-use Rattle.std.proofs.Common.{IfOk, IfErr, OnErr, inl, refl, ◌∙◌, subst, arith}
+use Rattle.std.proofs.Common.{◌++◌, IfOk, IfErr, OnErr, inl, refl, sym, ◌∙◌, subst, arith}
 use Rattle.map_model.specs.Calls.{Put}
 use Rattle.map_model.specs.Ordered.{was_put}
 use Rattle.board_rule.specs.Passes.{lane_of, view}
 use Rattle.worm_index.specs.Calls.{IsAnswered, IsUnanswered}
 use Rattle.worm_index.specs.Puts.{IsFaultBehind}
+use Rattle.history_sizes.specs.Fits.{Fits}
+use Rattle.worm_index.proofs.Fitting.{crowded_legal}
 use Rattle.worm_index.proofs.Going.{answered_then, notes_same, within_part}
 use Rattle.worm_index.proofs.Putting.{crowded_fault, put_answered, put_unanswered}
 use Rattle.worm_index.proofs.puts.put_item.Goals as goal
@@ -96,3 +98,12 @@ returns-in-Crowded-clause-sole g c sole = c.put_tended.ensures.sole (c.in-Crowde
 
 pub returns-in-Hindered-clause-sole : goal.returns-in-Hindered-clause-sole
 returns-in-Hindered-clause-sole g c sole = absurd (c.in-Hindered.ensures.sole sole)
+
+pub returns-in-Crowded-clause-room : goal.returns-in-Crowded-clause-room
+returns-in-Crowded-clause-room g c sole more fits =
+    let k = c.args.board.now.shape in
+    let v = view c.args.pass.now in
+    let u = view c.put_once.new.pass in
+    let t = c.in-Crowded.ensures.tried in
+    let same = t.0.alone sole in
+    c.put_tended.ensures.room (t.0.same.sole ∙ sole) (crowded_legal k c.args.key.now v u t.3.0 same) more (subst (λ h. Fits k.values k.leaves k.items k.soft (h ++ more)) (sym same) fits)

@@ -12,7 +12,7 @@ use Rattle.board_rule.specs.Steps.{Ends}
 use Rattle.board_rule.proofs.Turning.{lane_is}
 use Rattle.worm_index.proofs.Closing.{answered, answered_idle, opened_ascends, unanswered, unanswered_idle, unanswered_notes}
 use Rattle.worm_index.proofs.Changing.{held_with, gives_new, gives_set}
-use Rattle.worm_index.proofs.Crowding.{crowded_by}
+use Rattle.worm_index.proofs.Crowding.{crowded_by, roomy_opened}
 use Rattle.worm_index.proofs.Going.{notes_same, notes_then, unseen_unanswered, within_part}
 use Rattle.worm_index.proofs.puts.put_once.Goals as goal
 
@@ -267,3 +267,8 @@ returns-in-Err-clause-sole g c sole = absurd (false≢true (c.in-Err.ensures.sol
 
 pub returns-in-Err-clause-within : goal.returns-in-Err-clause-within
 returns-in-Err-clause-within g c b within = let le = c.open.ensures.within b within in omega (arith, le)
+
+pub returns-in-Crowded-clause-roomy : goal.returns-in-Crowded-clause-roomy
+returns-in-Crowded-clause-roomy g c sole room =
+    let o = c.in-Ok.ensures.opened in
+    absurd (roomy_opened c.args.board.now.shape c.args.key.now o.0 o.1 (view c.args.pass.now) (view c.open.new.pass) c.in-Ok.field-0.held o.2 sole room (c.in-Crowded.ensures.stored.3 ∙ ap (λ (s : Shape). s.hard) c.shape.ensures))
