@@ -14,3 +14,4 @@ pub mod Halves
 pub mod Joined
 pub mod Listed
 pub mod Partings
+pub mod Fronts

@@ -1,26 +1,24 @@
 -- Lists of places: how they grow and shrink, and the order that they say.
-use Rattle.std.proofs.Common.{◌≡◌, ◌≢◌, ℕ, zero, suc, ◌+◌, ◌<◌, ◌≤◌, List, [], ◌∷◌, ◌++◌, Bool, true, false, cond, ◌&&◌, not, nat_lt, refl, sym, ap, ◌∙◌, subst, length, length-append, get_or, set, take, drop, map, arith, inl, inr, add-one}
+use Rattle.std.proofs.Common.{◌≡◌, ◌≢◌, ℕ, zero, suc, ◌+◌, ◌<◌, List, [], ◌∷◌, ◌++◌, true, false, cond, ◌&&◌, nat_lt, refl, sym, ap, ◌∙◌, subst, length, length-append, get_or, set, take, drop, map, arith, inl, inr, add-one}
 use Rattle.std.specs.Prelude.{filter}
 use Rattle.std.specs.List.{All, AllByRecursion, Contains, range_with_len, remove}
-use Rattle.std.specs.List.Sorted.{IsPermutation, IsSortedBy, IsPartitionedBy}
-use Rattle.std.proofs.Math.ListN.{length-set}
-use Rattle.std.proofs.lemmas.Bool.{ltb-true}
+use Rattle.std.specs.List.Sorted.{IsPermutation, IsPartitionedBy}
 use Rattle.std.proofs.lemmas.List.{length-map, get_or-map, nil_from_length, set_split}
 use Rattle.std.proofs.lemmas.List.Elements.{recursion_from_All}
 use Rattle.std.proofs.lemmas.List.FromFn.{length-range_with_len, get_or-range_with_len}
-use Rattle.std.proofs.lemmas.List.Sorted.{IsPermutation-refl, IsPermutation-cons, IsPermutation-trans, IsPermutation-sym, IsPermutation-map, IsPermutation-append, IsPermutation-middle, IsPermutation-remove, IsPermutation-to_front, Contains-permutation, length_permutation}
+use Rattle.std.proofs.lemmas.List.Sorted.{IsPermutation-cons, IsPermutation-trans, IsPermutation-sym, IsPermutation-map, IsPermutation-middle, IsPermutation-remove, IsPermutation-to_front, Contains-permutation, length_permutation}
 use Rattle.key_bytes.specs.Bound.{is_under}
 use Rattle.key_bytes.specs.declared.bound.Bound.{Bound}
 use Rattle.key_bytes.specs.declared.bound.Bound.TheVariants.{Low}
-use Rattle.map_model.specs.Halves.{key_at, keys_of}
+use Rattle.map_model.specs.Halves.{key_at}
 use Rattle.map_model.specs.Maps.{Pairs, IsMap, between, sorted}
 use Rattle.map_model.proofs.Finds.{ascending_sorted}
 use Rattle.map_model.proofs.Halves.{key_at-pair}
-use Rattle.leaf_store.specs.Order.{ArePlaces, ListsAll, AreInOrder, is_earlier, is_place_under}
+use Rattle.leaf_store.specs.Order.{ArePlaces, ListsAll, AreInOrder, is_place_under}
 use Rattle.leaf_store.specs.Ranks.{HasKey, IsOrder}
 use Rattle.leaf_store.specs.Rows.{bit, is_pair, times, AreOnce}
 use Rattle.leaf_store.proofs.Cuts.{is_row_under, under_first}
-use Rattle.leaf_store.proofs.Numbered.{length-numbered, numbered_below, numbered_at}
+use Rattle.leaf_store.proofs.Numbered.{numbered_below, numbered_at}
 use Rattle.leaf_store.proofs.Ranked as ranked
 use Rattle.leaf_store.proofs.Settled.{counted}
 use Rattle.leaf_store.proofs.Unsorted.{total_permutation, sorted_ascending}

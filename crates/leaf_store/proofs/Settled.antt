@@ -1,5 +1,5 @@
 -- Rows that were sorted, and their tags.
-use Rattle.std.proofs.Common.{◌≡◌, ℕ, ◌+◌, ◌<◌, List, [], ◌∷◌, Bool, true, sym, ap, ◌∙◌, subst, length, get_or, take, arith, inl, ◌≤◌, IsTrue, length-take}
+use Rattle.std.proofs.Common.{◌≡◌, ℕ, ◌+◌, ◌<◌, List, [], ◌∷◌, Bool, true, sym, ap, ◌∙◌, subst, length, get_or, take, arith, inl, IsTrue, length-take}
 use Rattle.std.specs.List.{AllByRecursion, Contains, remove}
 use Rattle.std.specs.List.Sorted.{IsPermutation}
 use Rattle.std.proofs.lemmas.List.{nil_from_length, take_more}

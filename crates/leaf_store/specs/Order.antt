@@ -1,11 +1,11 @@
 -- The order of a leaf's rows, as a list of places.
-use Rattle.std.specs.Prelude.{◌≡◌, ℕ, ◌&&◌, ◌⊎◌, Bool, List, [], length, nat_lt, slice_index_or}
+use Rattle.std.specs.Prelude.{◌≡◌, ◌<◌, ◌≤◌, ◌+◌, ℕ, ◌&&◌, ◌⊎◌, Bool, List, [], length, nat_lt}
 use Rattle.std.specs.List.{range_with_len}
-use Rattle.std.specs.List.Sorted.{IsPermutation, IsSortedBy}
+use Rattle.std.specs.List.Sorted.{IsPermutation, IsSortedBy, IsSortedWithin}
 use Rattle.key_bytes.specs.Bound.{is_under}
 use Rattle.key_bytes.specs.Order.{is_below}
 use Rattle.key_bytes.specs.declared.bound.Bound.{Bound}
-use Rattle.map_model.specs.Halves.{key_at, keys_of}
+use Rattle.map_model.specs.Halves.{key_at}
 use Rattle.map_model.specs.Maps.{Pairs, IsMap}
 
 -- all places below the length, each once
@@ -15,6 +15,14 @@ ArePlaces order = IsPermutation (range_with_len 0 (length order)) order
 -- the key at one place is below that at another
 abbrev pub is_earlier : {V : Type 0} → Pairs V → ℕ → ℕ → Bool
 is_earlier rows p q = is_below (key_at rows p) (key_at rows q)
+
+-- so many first places are listed by ascending keys
+abbrev pub HasFront : {V : Type 0} → Pairs V → List ℕ → ℕ → Type 0
+HasFront rows order n = (n ≤ length order) × IsSortedWithin (is_earlier rows) order 0 n
+
+-- one first place less where the index is that of one of them
+abbrev pub IsLess : ℕ → ℕ → ℕ → Type 0
+IsLess at front less = ((at < front) × (less + 1 ≡ front)) ⊎ ((front ≤ at) × (less ≡ front))
 
 -- the places of all rows, by ascending keys
 abbrev pub ListsAll : {V : Type 0} → Pairs V → List ℕ → Type 0

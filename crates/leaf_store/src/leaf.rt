@@ -35,6 +35,8 @@ pub struct Leaf<V> {
     // The places of the first rows: ascending by their keys when they were listed, with those behind
     // that got another row since. None are listed where the rows themselves ascend.
     order: Vec<u16>,
+    // How many of the first listed places ascend by their keys still.
+    front: usize,
     ordered: bool,
 }
 
@@ -43,13 +45,14 @@ impl<V> Model for Leaf<V> {
     ghost use Rattle.map_model.specs.Halves.{keys_of};
     ghost use Rattle.map_model.specs.Maps.{sorted};
     ghost use Rattle.leaf_store.specs.Leaf.{LeafMap};
+    ghost use Rattle.leaf_store.specs.Order.{HasFront};
     ghost use Rattle.leaf_store.specs.Rows.{IsLeaf};
 
     ghost Value = { LeafMap V };
 
     ghost view = { λ l. record { map = sorted l.rows.items; keys = keys_of l.rows.items; spare = min (vec_capacity l.rows - length l.rows.items) l.tags.spare; salt = l.salt; is_ordered = l.ordered } };
 
-    ghost invariant = { λ l. IsLeaf l.salt l.rows.items l.tags.pairs l.order.items l.ordered };
+    ghost invariant = { λ l. IsLeaf l.salt l.rows.items l.tags.pairs l.order.items l.ordered × HasFront l.rows.items l.order.items l.front };
 }
 
 impl<V> Leaf<V> {
@@ -64,6 +67,7 @@ impl<V> Leaf<V> {
             tags: Tags::new(alloc),
             salt,
             order: Vec::new(alloc),
+            front: 0,
             ordered: true,
         }
     }
@@ -229,7 +233,13 @@ impl<V> Leaf<V> {
         let tag = first_bits(hash);
         let place = place_of(&self.rows, &self.tags, tag, key)?;
         self.ordered = false;
-        take_place(&mut self.order, place, self.tags.len() - 1);
+        self.front = take_place(
+            &self.rows,
+            &mut self.order,
+            self.front,
+            place,
+            self.tags.len() - 1,
+        );
         take_tag(&mut self.tags, &self.rows, self.salt, tag, place);
         let (_, value) = self.rows.swap_remove(place);
         Some(value)
@@ -239,10 +249,10 @@ impl<V> Leaf<V> {
     /// included, to `upto`, excluded. Where `from` is above `upto` the first place is above the
     /// second, and there are no such pairs.
     ///
-    /// What is sorted are the places, two bytes for each row, by std's stable sort: those that were in
-    /// order the last time are one run of it, and cost a comparison each, as do new ones that are merged
-    /// into them. Without memory for them the rows themselves are sorted, so this call never fails. An
-    /// order that is in place costs two binary searches.
+    /// What is put in order are the places, two bytes for each row. Those that were in order the last
+    /// time still are, and up to a third as many new ones cost a binary search each; more than that are
+    /// sorted with them. Without memory for them the rows themselves are sorted, so this call never
+    /// fails. An order that is in place costs two binary searches.
     pub fn pairs_between(
         &mut self,
         from: &Bound,
@@ -321,6 +331,7 @@ impl<V> Leaf<V> {
         );
         move_tail(&mut self.rows, stay, &mut right.rows);
         self.order.clear();
+        self.front = 0;
         right.ordered = true;
     }
 
@@ -364,6 +375,7 @@ impl<V> Leaf<V> {
         mem::swap(&mut self.tags, &mut left.tags);
         move_head(&mut self.rows, go, &mut left.rows);
         self.order.clear();
+        self.front = 0;
         left.ordered = true;
     }
 
@@ -382,6 +394,7 @@ impl<V> Leaf<V> {
         self.rows.append(&mut right.rows)?;
         right.tags.clear();
         right.order.clear();
+        right.front = 0;
         add_tags(&mut self.tags, &self.rows, self.salt);
         self.ordered = false;
         Ok(())
@@ -415,7 +428,14 @@ impl<V> Leaf<V> {
         ensures again { IsTrue self.old.is_ordered → self.new ≡ self.old }
     {
         if !self.ordered {
-            order_leaf(&mut self.rows, &mut self.tags, self.salt, &mut self.order);
+            order_leaf(
+                &mut self.rows,
+                &mut self.tags,
+                self.salt,
+                &mut self.order,
+                self.front,
+            );
+            self.front = self.order.len();
             self.ordered = true;
         }
     }
@@ -431,6 +451,7 @@ impl<V> Leaf<V> {
         if !self.ordered || !self.order.is_empty() {
             settle(&mut self.rows, &mut self.tags, self.salt);
             self.order.clear();
+            self.front = 0;
             self.ordered = true;
         }
     }

@@ -1,11 +1,12 @@
 //! The order of rows as a list of their places.
-ghost use Rattle.std.specs.Prelude.{◌≡◌, ◌+◌, ◌<◌, ◌≤◌, [], length, slice_index_or, vec_capacity, OnOk};
-ghost use Rattle.std.specs.List.{Contains};
+ghost use Rattle.std.specs.Prelude.{◌≡◌, ◌+◌, ◌<◌, ◌≤◌, List, ℕ, [], length, slice_index_or, vec_capacity, OnOk};
+ghost use Rattle.std.specs.List.{Contains, SameBelow, swap_remove};
+ghost use Rattle.std.specs.List.Sorted.{IsSortedBy};
 ghost use Rattle.key_bytes.specs.declared.bound.Bound.TheVariants.{Low};
 ghost use Rattle.map_model.specs.Halves.{key_at};
 ghost use Rattle.map_model.specs.Maps.{between, sorted};
 ghost use Rattle.std.specs.Ordering.{is_lt};
-ghost use Rattle.leaf_store.specs.Order.{ArePlaces, AreInOrder, ListsAll, is_earlier, is_place_under};
+ghost use Rattle.leaf_store.specs.Order.{ArePlaces, AreInOrder, HasFront, IsLess, ListsAll, is_earlier, is_place_under};
 ghost use Rattle.leaf_store.specs.Rows.{AreOnce, AreTags};
 
 use crate::order::{count_under, is_under, sort_rows};
@@ -45,21 +46,22 @@ fn index_of(order: &[u16], place: usize) -> usize
     at
 }
 
-// Takes a place out, whose row is about to be exchanged for the last one. Where that one is listed, its
-// entry names the place from then on; else the place goes behind all others.
-pub(crate) fn take_place(order: &mut Vec<u16>, place: usize, last: usize)
+// Takes the place at an index out, whose row is about to be exchanged for the last one. Where that one is
+// listed, its entry names the place from then on; else the place goes behind all others.
+fn take_listed<V>(rows: &[(Key, V)], order: &mut Vec<u16>, at: usize, place: usize, last: usize)
     requires places { ArePlaces order.old.items }
     requires few { length order.old.items ≤ last + 1 }
     requires in_range { place ≤ last }
     requires small { last < 65536 }
+    requires last { last + 1 ≡ length rows.now }
+    requires listed { at < length order.old.items }
+    requires there { slice_index_or order.old.items at place ≡ place }
     ensures places { ArePlaces order.new.items }
     ensures few { length order.new.items ≤ last }
+    ensures front { (front less : ℕ) (d : List ℕ × V) → HasFront rows.now order.old.items front → IsLess at front less
+        → HasFront (swap_remove rows.now place d) order.new.items less }
 {
     let count = order.len();
-    if place >= count {
-        return;
-    }
-    let at = index_of(order, place);
     let _ = order.remove(at);
     if last >= count {
         order.push_reserved(place as u16);
@@ -69,6 +71,40 @@ pub(crate) fn take_place(order: &mut Vec<u16>, place: usize, last: usize)
     }
 }
 
+// How many first places ascend when the one at an index is out.
+fn less_front(front: usize, at: usize) -> usize
+    ensures { IsLess at front result }
+{
+    if at < front { front - 1 } else { front }
+}
+
+// Takes a place out, whose row is about to be exchanged for the last one. How many first places ascend
+// afterwards, of so many that did.
+pub(crate) fn take_place<V>(
+    rows: &[(Key, V)],
+    order: &mut Vec<u16>,
+    front: usize,
+    place: usize,
+    last: usize,
+) -> usize
+    requires places { ArePlaces order.old.items }
+    requires few { length order.old.items ≤ last + 1 }
+    requires in_range { place ≤ last }
+    requires small { last < 65536 }
+    requires last { last + 1 ≡ length rows.now }
+    requires front { HasFront rows.now order.old.items front }
+    ensures places { ArePlaces order.new.items }
+    ensures few { length order.new.items ≤ last }
+    ensures front { (d : List ℕ × V) → HasFront (swap_remove rows.now place d) order.new.items result }
+{
+    if place >= order.len() {
+        return front;
+    }
+    let at = index_of(order, place);
+    take_listed(rows, order, at, place, last);
+    less_front(front, at)
+}
+
 // Lists the places that aren't listed yet, behind the others.
 fn list_places(order: &mut Vec<u16>, count: usize) -> Result<(), AllocError>
     requires places { ArePlaces order.old.items }
@@ -76,6 +112,7 @@ fn list_places(order: &mut Vec<u16>, count: usize) -> Result<(), AllocError>
     ensures places { ArePlaces order.new.items }
     ensures few { length order.new.items ≤ count }
     ensures all { OnOk result (length order.new.items ≡ count) }
+    ensures listed { SameBelow order.old.items order.new.items (length order.old.items) }
 {
     // Places take 16 bits.
     if count > 65_536 {
@@ -88,31 +125,66 @@ fn list_places(order: &mut Vec<u16>, count: usize) -> Result<(), AllocError>
     Ok(())
 }
 
-// Lists the places of all rows by ascending keys.
-fn order_places<V>(rows: &[(Key, V)], order: &mut Vec<u16>) -> Result<(), AllocError>
+// Puts the place at an index where it belongs among those before it, which ascend by their keys.
+fn put_place<V>(rows: &[(Key, V)], order: &mut Vec<u16>, i: usize)
+    requires places { ArePlaces order.old.items }
+    requires in_range { i < length order.old.items }
+    requires front { HasFront rows.now order.old.items i }
+    ensures places { ArePlaces order.new.items }
+    ensures count { length order.new.items ≡ length order.old.items }
+    ensures front { HasFront rows.now order.new.items (i + 1) }
+{
+    let place = order.remove(i);
+    let at = order[..i].partition_point(|listed| order_keys(rows, *listed, place).is_lt());
+    let _ = order.insert(at, place);
+}
+
+// Puts the places behind those that ascend where they belong among them.
+fn put_places<V>(rows: &[(Key, V)], order: &mut Vec<u16>, front: usize)
+    requires places { ArePlaces order.old.items }
+    requires front { HasFront rows.now order.old.items front }
+    ensures places { ArePlaces order.new.items }
+    ensures count { length order.new.items ≡ length order.old.items }
+    ensures sorted { IsSortedBy (is_earlier rows.now) order.new.items }
+{
+    for i in front..order.len() {
+        put_place(rows, order, i);
+    }
+}
+
+// Lists the places of all rows by ascending keys, of which so many first ones ascend already. A few more
+// are each looked for among these, and many are sorted with them.
+fn order_places<V>(rows: &[(Key, V)], order: &mut Vec<u16>, front: usize) -> Result<(), AllocError>
     requires places { ArePlaces order.old.items }
     requires few { length order.old.items ≤ length rows.now }
+    requires front { HasFront rows.now order.old.items front }
     ensures places { ArePlaces order.new.items }
     ensures few { length order.new.items ≤ length rows.now }
     ensures lists { OnOk result (ListsAll rows.now order.new.items) }
 {
     list_places(order, rows.len())?;
+    if order.len() - front <= order.len() / 4 {
+        put_places(rows, order, front);
+        return Ok(());
+    }
     order.sort_by(|a, b| order_keys(rows, *a, *b))?;
     Ok(())
 }
 
-// Puts the order of rows in place: their places are listed by ascending keys, or, without memory for
-// that, the rows themselves are sorted.
+// Puts the order of rows in place: their places are listed by ascending keys, as so many first ones are,
+// or, without memory for that, the rows themselves are sorted.
 pub(crate) fn order_leaf<V>(
     rows: &mut Vec<(Key, V)>,
     tags: &mut Tags,
     salt: u64,
     order: &mut Vec<u16>,
+    front: usize,
 )
     requires keys { AreOnce rows.old.items }
     requires tags { AreTags salt rows.old.items tags.old.pairs }
     requires places { ArePlaces order.old.items }
     requires few { length order.old.items ≤ length rows.old.items }
+    requires front { HasFront rows.old.items order.old.items front }
     ensures map { sorted rows.new.items ≡ sorted rows.old.items }
     ensures keys { AreOnce rows.new.items }
     ensures count { length rows.new.items ≡ length rows.old.items }
@@ -123,7 +195,7 @@ pub(crate) fn order_leaf<V>(
     ensures few { length order.new.items ≤ length rows.new.items }
     ensures known { AreInOrder rows.new.items order.new.items }
 {
-    if order_places(rows, order).is_err() {
+    if order_places(rows, order, front).is_err() {
         sort_rows(rows);
         retag(tags, rows, salt);
         order.clear();

@@ -3,7 +3,7 @@ ghost use Rattle.line_protocol.specs.ReplyLine.{AppendsAll};
 ghost use Rattle.line_protocol.specs.Texts.{text, again_text, full_text, fault_text, pair_line};
 
 use crate::Fault;
-use crate::reply_line::{append_numbers, append_pair, append_value};
+use crate::reply_line::{append_line, append_numbers, append_pair, append_value};
 use map_model::{Again, Full};
 use std::alloc::AllocError;
 
@@ -39,17 +39,17 @@ pub fn reply_text(out: &mut Vec<u8>, answer: &Answer<'_>) -> Result<(), AllocErr
     ensures { AppendsAll result out.old.items out.new.items (text answer.now) }
 {
     match answer {
-        Answer::New => append_numbers(out, b"NEW", &[]),
-        Answer::Set => append_numbers(out, b"SET", &[]),
+        Answer::New => append_line(out, b"NEW\n"),
+        Answer::Set => append_line(out, b"SET\n"),
         Answer::Value(value) => append_value(out, value),
-        Answer::Absent => append_numbers(out, b"NONE", &[]),
-        Answer::Gone => append_numbers(out, b"GONE", &[]),
+        Answer::Absent => append_line(out, b"NONE\n"),
+        Answer::Gone => append_line(out, b"GONE\n"),
         Answer::End(count) => append_numbers(out, b"END", &[*count]),
-        Answer::Bye => append_numbers(out, b"BYE", &[]),
+        Answer::Bye => append_line(out, b"BYE\n"),
         Answer::Fault(fault) => fault_reply(out, *fault),
         Answer::Full(full) => full_reply(out, *full),
         Answer::Again(again) => again_reply(out, *again),
-        Answer::NoMemory => append_numbers(out, b"NOMEM", &[]),
+        Answer::NoMemory => append_line(out, b"NOMEM\n"),
     }
 }
 

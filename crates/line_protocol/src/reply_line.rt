@@ -22,6 +22,14 @@ pub(crate) fn append_numbers(
     result
 }
 
+/// Appends a line that is known whole, or nothing.
+#[inline(always)]
+pub(crate) fn append_line(out: &mut Vec<u8>, line: &[u8]) -> Result<(), AllocError>
+    ensures { AppendsAll result out.old.items out.new.items line.now }
+{
+    out.extend_from_slice(line)
+}
+
 /// Appends the line of a value, or nothing.
 pub(crate) fn append_value(out: &mut Vec<u8>, value: &[u8]) -> Result<(), AllocError>
     ensures { AppendsAll result out.old.items out.new.items (value_line value.now) }

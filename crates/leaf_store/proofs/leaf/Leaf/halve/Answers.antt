@@ -4,10 +4,11 @@ use Rattle.leaf_store.specs.Rows.{AreTags}
 use Rattle.leaf_store.proofs.Unsorted.{sorted_nothing, sorted_ascending}
 use Rattle.leaf_store.proofs.Halves.{none_listed, left_leaf, right_leaf, left_map, right_map}
 use Rattle.leaf_store.proofs.Settled.{no_tags, settled_rows, seen_pairs, seen_spare}
+use Rattle.leaf_store.proofs.Fronts.{front_none, front_empty}
 use Rattle.leaf_store.proofs.leaf.Leaf.halve.Goals as goal
 
 pub move_tail-requires-clause-empty : goal.move_tail-requires-clause-empty
-move_tail-requires-clause-empty g c = sorted_nothing c.right.inside.rows.items c.right.invariant.keys (seen_pairs _ _ c.right.view_is ∙ c.requires.empty)
+move_tail-requires-clause-empty g c = sorted_nothing c.right.inside.rows.items c.right.invariant.0.keys (seen_pairs _ _ c.right.view_is ∙ c.requires.empty)
 
 pub move_tail-requires-clause-room : goal.move_tail-requires-clause-room
 move_tail-requires-clause-room g c =
@@ -18,10 +19,10 @@ move_tail-requires-clause-room g c =
     omega (arith, size, spare, room, c.len.ensures, c.len-2.ensures)
 
 pub cut_tags-requires-clause-tags : goal.cut_tags-requires-clause-tags
-cut_tags-requires-clause-tags g c = rw c.deref.ensures.value c.self.invariant.tags
+cut_tags-requires-clause-tags g c = rw c.deref.ensures.value c.self.invariant.0.tags
 
 pub cut_tags-requires-clause-empty : goal.cut_tags-requires-clause-empty
-cut_tags-requires-clause-empty g c = no_tags c.right.inside.salt c.right.inside.rows.items c.right.inside.tags.pairs c.right.invariant.tags (sorted_nothing c.right.inside.rows.items c.right.invariant.keys (seen_pairs _ _ c.right.view_is ∙ c.requires.empty))
+cut_tags-requires-clause-empty g c = no_tags c.right.inside.salt c.right.inside.rows.items c.right.inside.tags.pairs c.right.invariant.0.tags (sorted_nothing c.right.inside.rows.items c.right.invariant.0.keys (seen_pairs _ _ c.right.view_is ∙ c.requires.empty))
 
 pub cut_tags-requires-clause-room : goal.cut_tags-requires-clause-room
 cut_tags-requires-clause-room g c =
@@ -36,13 +37,13 @@ pub invariant_of-self : goal.invariant_of-self
 invariant_of-self g c =
     let s = settled_rows _ _ c.self.view_is c.self.inside.rows.items refl refl c.arrange_rows.ensures.keys _ c.arrange_rows.ensures.map in
     let tags = subst (λ rows. AreTags c.self.inside.salt (take (c.len.result - c.len-2.result / 2) rows) c.cut_tags.new.tags.pairs) c.deref.ensures.value c.cut_tags.ensures.stay in
-    rw c.move_tail.ensures.stay (left_leaf c.self.inside.rows.items s.1 (c.len.result - c.len-2.result / 2) c.self.invariant.keys c.self.inside.salt c.cut_tags.new.tags.pairs tags c.clear.new.self.items c.clear.ensures.items c.self.inside.ordered)
+    rw c.move_tail.ensures.stay (left_leaf c.self.inside.rows.items s.1 (c.len.result - c.len-2.result / 2) c.self.invariant.0.keys c.self.inside.salt c.cut_tags.new.tags.pairs tags c.clear.new.self.items c.clear.ensures.items c.self.inside.ordered, front_none _ c.clear.new.self.items)
 
 pub invariant_of-right : goal.invariant_of-right
 invariant_of-right g c =
     let s = settled_rows _ _ c.self.view_is c.self.inside.rows.items refl refl c.arrange_rows.ensures.keys _ c.arrange_rows.ensures.map in
     let tags = subst (λ rows. AreTags c.right.inside.salt (drop (c.len.result - c.len-2.result / 2) rows) c.cut_tags.new.right.pairs) c.deref.ensures.value c.cut_tags.ensures.go in
-    rw c.move_tail.ensures.go (right_leaf c.self.inside.rows.items s.1 (c.len.result - c.len-2.result / 2) c.self.invariant.keys c.right.inside.salt c.cut_tags.new.right.pairs tags c.right.inside.order.items (none_listed c.right.inside.rows.items c.right.inside.order.items (sorted_nothing c.right.inside.rows.items c.right.invariant.keys (seen_pairs _ _ c.right.view_is ∙ c.requires.empty)) c.right.invariant.few) true)
+    rw c.move_tail.ensures.go (right_leaf c.self.inside.rows.items s.1 (c.len.result - c.len-2.result / 2) c.self.invariant.0.keys c.right.inside.salt c.cut_tags.new.right.pairs tags c.right.inside.order.items (none_listed c.right.inside.rows.items c.right.inside.order.items (sorted_nothing c.right.inside.rows.items c.right.invariant.0.keys (seen_pairs _ _ c.right.view_is ∙ c.requires.empty)) c.right.invariant.0.few) true, front_empty c.right.inside.rows.items _ c.right.inside.order.items c.right.inside.front (none_listed c.right.inside.rows.items c.right.inside.order.items (sorted_nothing c.right.inside.rows.items c.right.invariant.0.keys (seen_pairs _ _ c.right.view_is ∙ c.requires.empty)) c.right.invariant.0.few) c.right.invariant.1)
 
 pub returns-clause-stay : goal.returns-clause-stay
 returns-clause-stay g c =

@@ -1,9 +1,9 @@
-use Rattle.std.proofs.Common.{arith, ◌≡◌, ◌∙◌, ap, subst, length}
+use Rattle.std.proofs.Common.{arith, ◌∙◌, ap, subst, length}
 use Rattle.key_bytes.specs.declared.bound.Bound.TheVariants.{Low}
 use Rattle.map_model.specs.Maps.{IsMap, between, sorted}
 use Rattle.map_model.proofs.Finds.{ascending_sorted}
 use Rattle.leaf_store.proofs.Cuts.{between_at}
-use Rattle.leaf_store.proofs.Settled.{seen_ordered, seen_pairs}
+use Rattle.leaf_store.proofs.Settled.{seen_pairs}
 use Rattle.leaf_store.proofs.Unsorted.{length-sorted}
 use Rattle.leaf_store.proofs.leaf.Leaf.pairs_between.Goals as goal
 
@@ -15,7 +15,7 @@ returns-clause-end g c = c.count_in_order-end.ensures.count ∙ ap (λ m. length
 
 pub returns-clause-in_range : goal.returns-clause-in_range
 returns-clause-in_range g c =
-    let size = length-sorted c.self.inside.rows.items c.self.invariant.keys in
+    let size = length-sorted c.self.inside.rows.items c.self.invariant.0.keys in
     let map = ap length (seen_pairs _ _ c.self.view_is ∙ c.put_in_order.ensures.map) in
     let start = ap length c.deref.ensures.value in
     let end = ap length c.deref-3.ensures.value in

@@ -1,6 +1,5 @@
-use Rattle.std.proofs.Common.{◌≡◌, ◌+◌, ◌-◌, ◌<◌, ℕ, List, length, take, arith, ap, ◌∙◌, subst, IfOk}
-use Rattle.key_bytes.specs.Common.{lcp}
-use Rattle.map_model.specs.Halves.{parting, stay_count}
+use Rattle.std.proofs.Common.{◌≡◌, ℕ, List, length, arith, ap, ◌∙◌, subst, IfOk}
+use Rattle.map_model.specs.Halves.{parting}
 use Rattle.map_model.specs.Maps.{Pairs}
 use Rattle.leaf_store.proofs.Partings.{sides_ascend, sides_part}
 use Rattle.leaf_store.proofs.leaf.Leaf.parting.Goals as goal
