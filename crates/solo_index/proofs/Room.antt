@@ -1,5 +1,5 @@
 -- Where a history fits, there is room for its next put.
-use Rattle.std.proofs.Common.{◌≡◌, ◌+◌, ◌<◌, ◌≤◌, List, ◌∷◌, ◌++◌, length, ℕ, sym, ap, subst, arith, inl, inr, Err}
+use Rattle.std.proofs.Common.{◌≡◌, ◌<◌, ◌≤◌, List, ◌++◌, length, ℕ, sym, ap, subst, arith, inl, inr, Err}
 use Rattle.anchor_rules.specs.Anchors.{AreAnchors, span}
 use Rattle.leaf_spans.specs.Counting.{Counted}
 use Rattle.leaf_spans.specs.Spread.{inside, size_in}
