@@ -1,5 +1,4 @@
 pub mod Rule
 pub mod Steps
 pub mod Calls
-pub mod Names
 pub mod Props

@@ -80,7 +80,7 @@ impl<'a> SharedLane<'a> {
 }
 
 impl Ordered for SharedLane<'_> {
-    ghost use Rattle.lane_stores.specs.Names.{number_of};
+    ghost use Rattle.lane_facts.specs.Names.{number_of};
     ghost use Rattle.lane_stores.specs.Calls.{HasSeen, IsForLane};
 
     ghost lane = { λ s. s.number };

@@ -2,7 +2,7 @@ use Rattle.std.proofs.Common.{◌≡◌, ◌+◌, max, sym, ap, ◌∙◌, subst
 use Rattle.atomic_table.specs.Table.{Me}
 use Rattle.lane_stores.specs.declared.view.View.{View}
 use Rattle.lane_stores.specs.Rule.{Map, Has}
-use Rattle.lane_stores.proofs.Names.{number_apart}
+use Rattle.lane_facts.proofs.Names.{number_apart}
 use Rattle.lane_stores.proofs.Beginnings.{among_front, among_back}
 use Rattle.lane_stores.proofs.Entering.{joined_met, joined_idle, joined_one, greater_max}
 use Rattle.lane_stores.proofs.lane.SharedLaneLanes.end.Goals as goal

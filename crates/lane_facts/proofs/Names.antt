@@ -1,7 +1,7 @@
 -- Tables with one number are one table.
 use Rattle.std.proofs.Common.{◌≡◌, ℕ, zero, suc, ◌<◌, List, [], ◌∷◌, refl, ap, arith}
 use Rattle.atomic_table.specs.Seated.{TableId}
-use Rattle.lane_stores.specs.Names.{paired, listed, parts_of, number_of}
+use Rattle.lane_facts.specs.Names.{paired, listed, parts_of, number_of, origin_of}
 
 above_zero : (a b : ℕ) → 0 < paired a b
 above_zero zero b = omega arith
@@ -33,3 +33,8 @@ number_apart t u same =
     let offset : t.offset ≡ u.offset = cc in
     let names : t.slot_names ≡ u.slot_names = cc in
     λ i. record { words = words i; slots = slots i; views_name = views i; atom = atom i; block = block i; offset = offset i; slot_names = names i }
+
+pub origin_apart : (lanes others : ℕ) (t u : TableId) → origin_of lanes t ≡ origin_of others u → (lanes ≡ others) × (t ≡ u)
+origin_apart lanes others t u same =
+    let both = paired_apart lanes (number_of t) others (number_of u) same in
+    (both.0, number_apart t u both.1)

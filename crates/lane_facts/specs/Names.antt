@@ -16,3 +16,7 @@ parts_of t = t.words ∷ t.slots ∷ t.views_name ∷ t.atom ∷ t.block ∷ t.o
 
 abbrev pub number_of : TableId → ℕ
 number_of t = listed (parts_of t)
+
+-- the number of an index over a table, which also tells how many lanes there may be
+abbrev pub origin_of : ℕ → TableId → ℕ
+origin_of lanes t = paired lanes (number_of t)

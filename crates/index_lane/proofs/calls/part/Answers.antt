@@ -1,0 +1,10 @@
+use Rattle.std.proofs.Common.{◌≡◌, rules}
+use Rattle.board_rule.specs.Passes.{lane_of, view}
+use Rattle.worm_index.specs.declared.parts.PartFault.TheVariants.{Again}
+use Rattle.index_lane.proofs.Looking.{part_look}
+use Rattle.index_lane.proofs.calls.part.Goals as goal
+
+pub returns-in-Err-Again-clause-cause : goal.returns-in-Err-Again-clause-cause
+returns-in-Err-Again-clause-cause g c =
+    let is : c.in-Err-Again.field-0 ≡ Again c.in-Err-Again.again = search rules in
+    part_look (view c.args.pass.now) (view c.try_part.new.pass) (view c.see_lanes-in-Err-Again.new.pass) c.see_lanes-in-Err-Again.result c.see_lanes-in-Err-Again.ensures.view c.args.index.now.board.shape (lane_of c.args.pass.now.lane) c.args.from.now c.in-Err-Again.field-0 c.in-Err-Again.again is c.in-Err-Again.ensures.cause

@@ -1,0 +1,197 @@
+//! A lane as a store.
+
+ghost use Rattle.std.specs.Prelude.{◌≡◌, ◌+◌, ◌-◌, [], true, Some, None, IsSome};
+ghost use Rattle.board_rule.specs.Passes.{lane_of, view, IsOf};
+ghost use Rattle.worm_index.specs.Idle.{IsIdle};
+ghost use Rattle.index_lane.specs.Steady.{IsSteady, steady_prop};
+ghost use Rattle.index_lane.specs.Causes.{IsNoted};
+
+use crate::calls;
+use board_rule::Pass;
+use counts::raise;
+use key_bytes::{Bound, Key};
+use map_model::{ForkFault, Lanes, Ordered, Page, Refusal};
+use std::marker::Brand;
+use std::sync::ledger::Blank;
+use worm_index::{Index, end, fork};
+
+/// One lane's hold on an index that lanes share. Its calls try once, and are refused where another lane is in
+/// the way.
+#[derive(Drop)]
+pub struct Lane<'i> {
+    index: &'i Index,
+    pass: Pass,
+    refusals: u64,
+    last: Option<Refusal>,
+    ghost of: { IsOf index.now.board pass },
+    ghost laned: { IsSome pass.lane },
+    ghost steady: { IsSteady index.now.board.shape (lane_of pass.lane) (view pass) } by { steady_prop index.now.board.shape (lane_of pass.lane) (view pass) },
+}
+
+impl<'i> Lane<'i> {
+    /// The lane of an index's first pass, as [`Index::make`] answers it. It was never refused. It makes one
+    /// look at the index and takes no memory.
+    pub fn new(index: &'i Index, pass: Pass) -> Lane<'i>
+        requires of { IsOf index.now.board pass }
+        requires lane { pass.lane ≡ Some 0 }
+        requires idle { IsIdle (view pass) }
+        requires seen { (view pass).seen ≡ [] }
+        requires given { ((view pass).drawn ≡ None) × ((view pass).given ≡ 1) }
+        ensures pass { (result.pass.lane ≡ pass.lane) × ((view result.pass).sole ≡ (view pass).sole) × ((view result.pass).room ≡ (view pass).room) }
+        ensures seen { (view result.pass).seen ≡ [] }
+        ensures index { result.index.now ≡ index.now }
+        ensures counted { (result.refusals ≡ 0) × (result.last ≡ None) }
+    {
+        let mut pass = pass;
+        calls::see_lanes(&mut pass, index);
+        Lane {
+            index,
+            pass,
+            refusals: 0,
+            last: None,
+        }
+    }
+
+    /// The lane's pass, for calls of the index itself.
+    pub fn into_pass(self) -> Pass
+        ensures { result ≡ self.entry.pass }
+    {
+        let Lane {
+            index: _,
+            pass,
+            refusals: _,
+            last: _,
+        } = self;
+        pass
+    }
+
+    // Counts a refusal for another lane or for want of room, and answers it.
+    fn note(&mut self, refusal: Refusal) -> Refusal
+        ensures same { (self.new.index ≡ self.old.index) × (self.new.pass ≡ self.old.pass) }
+        ensures result { result ≡ refusal }
+        ensures noted { IsNoted self.old.refusals self.old.last self.new.refusals self.new.last refusal }
+    {
+        match refusal {
+            Refusal::NoMemory => {}
+            _ => {
+                self.refusals = raise(self.refusals);
+                self.last = Some(refusal);
+            }
+        }
+        refusal
+    }
+}
+
+impl Ordered for Lane<'_> {
+    ghost use Rattle.std.specs.Prelude.{◌≡◌};
+    ghost use Rattle.std.proofs.Common.{subst, sym};
+    ghost use Rattle.map_model.specs.History.{IsLegal};
+    ghost use Rattle.lane_facts.specs.Names.{origin_of};
+    ghost use Rattle.board_rule.specs.Passes.{lane_of, view};
+    ghost use Rattle.index_lane.specs.Causes.{Fits, IsRefused};
+
+    ghost lane = { λ s. lane_of s.pass.lane };
+
+    ghost sole = { λ s. (view s.pass).sole };
+
+    ghost origin = { λ s. origin_of s.index.now.board.shape.lanes s.pass.seat.table_id };
+
+    ghost refusals = { λ s. s.refusals };
+
+    ghost last = { λ s. s.last };
+
+    ghost room = { λ s. (view s.pass).room };
+
+    ghost stands = { λ s h. h ≡ (view s.pass).seen };
+
+    ghost fits = { λ s h. Fits s.index.now.board.shape h };
+
+    ghost caused = { λ s t r. IsRefused s.index.now.board.shape (lane_of s.pass.lane) (view s.pass) (view t.pass) r };
+
+    ghost stands_legal = { λ s h stood. subst IsLegal (sym stood) s.steady.legal };
+
+    fn get(&mut self, key: &Key, out: &mut Vec<u8>) -> Result<bool, Refusal> {
+        match calls::get::<Brand>(&mut self.pass, self.index, key, out, Blank::new(1)) {
+            Ok(there) => Ok(there),
+            Err(refusal) => Err(self.note(refusal)),
+        }
+    }
+
+    fn put(&mut self, key: &Key, value: &[u8]) -> Result<bool, Refusal> {
+        match calls::put::<Brand>(&mut self.pass, self.index, key, value, Blank::new(1)) {
+            Ok(first) => Ok(first),
+            Err(refusal) => Err(self.note(refusal)),
+        }
+    }
+
+    fn del(&mut self, key: &Key) -> Result<bool, Refusal> {
+        match calls::del::<Brand>(&mut self.pass, self.index, key, Blank::new(1)) {
+            Ok(gone) => Ok(gone),
+            Err(refusal) => Err(self.note(refusal)),
+        }
+    }
+
+    fn part(&mut self, from: &Bound, to: &Bound, page: &mut Page) -> Result<Bound, Refusal> {
+        match calls::part::<Brand>(&mut self.pass, self.index, from, to, page, Blank::new(1)) {
+            Ok(upto) => Ok(upto),
+            Err(refusal) => Err(self.note(refusal)),
+        }
+    }
+
+    fn rest(&mut self) {}
+
+    fn wake(&mut self) {}
+}
+
+impl Lanes for Lane<'_> {
+    ghost use Rattle.std.specs.Prelude.{refl};
+    ghost use Rattle.board_rule.specs.Passes.{lane_of, view};
+    ghost use Rattle.index_lane.specs.Numbers.{HasAll, has_own};
+
+    ghost seen = { λ s. (view s.pass).seen };
+
+    ghost lanes = { λ s. s.index.now.board.shape.lanes };
+
+    ghost next = { λ s. (view s.pass).given };
+
+    ghost has_all = { λ s n. HasAll (view s.pass) n };
+
+    ghost stands_seen = { λ s. refl };
+
+    ghost only_seen = { λ s h stood. stood };
+
+    ghost numbered = { λ s. s.steady.numbered };
+
+    ghost of_lanes = { λ s. s.steady.lanes };
+
+    ghost has_own = { λ s. has_own (view s.pass) (lane_of s.pass.lane) s.steady.named };
+
+    ghost above = { λ s. s.steady.above };
+
+    ghost within = { λ s. s.steady.within };
+
+    fn fork(&mut self) -> Result<Self, ForkFault> {
+        let alloc = self.pass.alloc();
+        match fork(&mut self.pass, alloc, self.index) {
+            Ok(pass) => Ok(Lane {
+                index: self.index,
+                pass,
+                refusals: 0,
+                last: None,
+            }),
+            Err(fault) => Err(fault),
+        }
+    }
+
+    fn end(self, into: &mut Self) {
+        let Lane {
+            index: _,
+            pass,
+            refusals,
+            last: _,
+        } = self;
+        end(pass, &mut into.pass, into.index);
+        calls::see_lanes(&mut into.pass, into.index);
+        into.refusals = into.refusals.saturating_add(refusals);
+    }
+}
