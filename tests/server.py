@@ -574,16 +574,6 @@ def a_full_leaf_is_told(worm: str) -> str:
     return "a fourth key where there is room for three is refused, and taken once another is gone"
 
 
-@case
-def as_many_keys_as_values(worm: str) -> str:
-    with server(worm, "--values=100") as running, running.client() as client:
-        client.pipeline([Put(b"%03d" % number, b"1") for number in range(100)])
-        error = is_raised(Full, lambda: client.put(b"more", b"1"))
-        same(str(error), "FULL values 100 100", "the refusal")
-        same((client.delete(b"000"), client.put(b"more", b"1")), (True, True), "what follows")
-    return "a key more is refused, and taken once another is gone"
-
-
 def is_raised(kind: type[WormError], call: Callable[[], object]) -> WormError:
     try:
         call()
