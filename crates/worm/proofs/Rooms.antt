@@ -2,9 +2,9 @@
 use Rattle.std.proofs.Common.{◌<◌, ◌≤◌, ◌/◌, ◌^◌, ℕ, List, arith}
 use Rattle.std.proofs.lemmas.Nat.{le-div, mul-le}
 use Rattle.history_sizes.specs.Sizes.{new_keys, longest_new, changes}
+use Rattle.index_lane.specs.Causes.{Fits}
 use Rattle.row_words.specs.Shape.{IsShape}
 use Rattle.row_words.specs.declared.shape.Shape.{Shape}
-use Rattle.solo_index.specs.Standing.{Fits}
 use Rattle.sole_sessions.specs.PlainHistory.{plain_history}
 use Rattle.sole_sessions.specs.Rooms.{HasRoomFor}
 use Rattle.worm.specs.Runs.{IsWithin}

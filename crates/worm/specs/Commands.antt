@@ -1,30 +1,54 @@
 -- What a command did.
 use Rattle.std.specs.Prelude.{◌≡◌, ℕ, List, Option, Some, None}
+use Rattle.board_rule.specs.declared.board.Pass.{Pass}
 use Rattle.command_line.specs.Commands.{Wanted, Run, Lanes, Serve, Fill}
+use Rattle.outside.specs.Connections.{Connection}
 use Rattle.outside.specs.Reading.{Told}
-use Rattle.worm.specs.Fills.{Filled}
-use Rattle.worm.specs.Runs.{Ran}
-
--- no command, or one that the program doesn't carry out yet
-abbrev pub IsUnknown : Option Wanted → Type 0
-IsUnknown None = Unit {0}
-IsUnknown (Some (Run k)) = ⊥
-IsUnknown (Some (Lanes count tries k)) = Unit {0}
-IsUnknown (Some (Serve address workers sessions k)) = Unit {0}
-IsUnknown (Some (Fill number count k)) = ⊥
+use Rattle.worm.specs.Fills.{FilledWith}
+use Rattle.worm.specs.Lanes.{LanesRan}
+use Rattle.worm.specs.Runs.{RanWith}
+use Rattle.worm.specs.Servers.{ServedWith}
 
 -- no command, or one that reads no input
 abbrev pub ReadsNothing : Option Wanted → Type 0
 ReadsNothing None = Unit {0}
 ReadsNothing (Some (Run k)) = ⊥
-ReadsNothing (Some (Lanes count tries k)) = Unit {0}
+ReadsNothing (Some (Lanes count tries k)) = ⊥
 ReadsNothing (Some (Serve address workers sessions k)) = Unit {0}
 ReadsNothing (Some (Fill number count k)) = Unit {0}
 
--- Words that are no command end with status 2, and a command as it says.
-abbrev pub Did : Option Wanted → ℕ → Option Told → Option Told → Option (List ℕ) → Option (List ℕ) → ℕ → ℕ → ℕ → ℕ → Type 0
-Did None status told_before told_now written_before written_now reads_before reads_now writes_before writes_now = status ≡ 2
-Did (Some (Run k)) status told_before told_now written_before written_now reads_before reads_now writes_before writes_now = Ran k status told_before told_now written_before written_now reads_before reads_now writes_before writes_now
-Did (Some (Lanes count tries k)) status told_before told_now written_before written_now reads_before reads_now writes_before writes_now = status ≡ 2
-Did (Some (Serve address workers sessions k)) status told_before told_now written_before written_now reads_before reads_now writes_before writes_now = status ≡ 2
-Did (Some (Fill number count k)) status told_before told_now written_before written_now reads_before reads_now writes_before writes_now = Filled k number count status written_before written_now
+-- no command, or one that writes no output
+abbrev pub WritesNothing : Option Wanted → Type 0
+WritesNothing None = Unit {0}
+WritesNothing (Some (Run k)) = ⊥
+WritesNothing (Some (Lanes count tries k)) = ⊥
+WritesNothing (Some (Serve address workers sessions k)) = Unit {0}
+WritesNothing (Some (Fill number count k)) = ⊥
+
+-- no command, or one that serves no connections
+abbrev pub OpensNothing : Option Wanted → Type 0
+OpensNothing None = Unit {0}
+OpensNothing (Some (Run k)) = Unit {0}
+OpensNothing (Some (Lanes count tries k)) = Unit {0}
+OpensNothing (Some (Serve address workers sessions k)) = ⊥
+OpensNothing (Some (Fill number count k)) = Unit {0}
+
+-- what is seen of a source, a sink and a door: their bytes and closed connections, where these are told, and their counts of faults and of closings
+pub record Ends : Type 0 where
+  pub told : Option Told
+  pub reads : ℕ
+  pub written : Option (List ℕ)
+  pub writes : ℕ
+  pub closed : Option (List Connection)
+  pub closings : ℕ
+
+abbrev pub ends : Option Told → ℕ → Option (List ℕ) → ℕ → Option (List Connection) → ℕ → Ends
+ends told reads written writes closed closings = record { told = told; reads = reads; written = written; writes = writes; closed = closed; closings = closings }
+
+-- Words that are no command end with status 2 and without a pass, and a command as it says.
+abbrev pub Did : Option Wanted → ℕ → Ends → Ends → Option Pass → Type 0
+Did None status old new pass = (status ≡ 2) × (pass ≡ None)
+Did (Some (Run k)) status old new pass = RanWith k status old.told new.told old.written new.written old.reads new.reads old.writes new.writes pass
+Did (Some (Lanes count tries k)) status old new pass = LanesRan k count tries status old.told new.told old.written new.written pass
+Did (Some (Serve address workers sessions k)) status old new pass = ServedWith k workers sessions status old.closed new.closed old.closings new.closings pass
+Did (Some (Fill number count k)) status old new pass = FilledWith k number count status old.written new.written pass

@@ -1,17 +1,19 @@
 -- How a fill ends.
-use Rattle.std.specs.Prelude.{◌≡◌, ℕ, true, List, codes, Option, None}
+use Rattle.std.specs.Prelude.{◌≡◌, ℕ, true, List, codes, Option, Some, None}
+use Rattle.board_rule.specs.Passes.{view}
+use Rattle.board_rule.specs.declared.board.Pass.{Pass}
 use Rattle.fill_runs.specs.Fills as fills
 use Rattle.fill_runs.specs.Summary.{counted, summary}
 use Rattle.fill_runs.specs.declared.fills.FillEnd.{FillEnd}
 use Rattle.fill_runs.specs.declared.fills.FillEnd.TheVariants.{Done, WriteFault, NoMemory}
 use Rattle.generated_lines.specs.Generator.{made, generated}
-use Rattle.map_model.specs.History.{IsLegal}
+use Rattle.index_lane.specs.Causes.{Fits}
+use Rattle.map_model.specs.History.{Entry}
 use Rattle.map_model.specs.declared.refusal.Refusal.{Refusal}
 use Rattle.outside.specs.Writing.{Wrote}
 use Rattle.row_words.specs.declared.shape.Shape.{Shape}
 use Rattle.session.specs.Plain.{plain_output}
-use Rattle.solo_index.specs.Standing.{Fits}
-use Rattle.worm.specs.Runs.{IsNew, IsWithin}
+use Rattle.worm.specs.Runs.{IsFirstLanes, IsJust, IsNew, IsWithin}
 
 -- the status of a fill's end
 abbrev pub fill_status : FillEnd → ℕ
@@ -30,13 +32,19 @@ pub record HasSummary (k : Shape) (number count : ℕ) (written_before written_n
   -- there no line tells want of room, also where some tell want of memory
   pub never_full : IsWithin k (made number count) → counted (codes "FULL") output ≡ 0
 
--- What a fill made and wrote.
-pub record Filled (k : Shape) (number count status : ℕ) (written_before written_now : Option (List ℕ)) : Type 0 where
+-- What a fill made and wrote, and what its lane had seen at its end.
+pub record Filled (k : Shape) (number count status : ℕ) (written_before written_now : Option (List ℕ)) (seen : List Entry) : Type 0 where
+  pub mine : IsFirstLanes seen
   -- a fill of an index that is the only lane came to this end
   pub end : FillEnd
   pub of_end : status ≡ fill_status end
-  -- it grew a legal history from nothing, the output that it summed up is the transcript, and want of room was told only where there is none
+  -- what the lane had seen is a legal history from nothing, the output that was summed up is the transcript of these calls, and want of room was told only where there is none
   pub refusals : ℕ
   pub last : Option Refusal
-  pub served : fills.Filled end number count written_before written_now 0 true (Fits k) 0 refusals None last IsNew IsLegal
+  pub served : fills.Filled end number count written_before written_now 0 true (Fits k) 0 refusals None last IsNew (IsJust seen)
   pub summed : status ≡ 0 → HasSummary k number count written_before written_now
+
+-- What a fill did, by the pass that it returns. Without one no index could be made, and nothing was written.
+abbrev pub FilledWith : Shape → ℕ → ℕ → ℕ → Option (List ℕ) → Option (List ℕ) → Option Pass → Type 0
+FilledWith k number count status written_before written_now None = (status ≡ 5) × (written_now ≡ written_before)
+FilledWith k number count status written_before written_now (Some pass) = Filled k number count status written_before written_now (view pass).seen

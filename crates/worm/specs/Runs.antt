@@ -1,7 +1,11 @@
 -- How commands end.
 use Rattle.std.specs.Prelude.{◌≡◌, ◌⊎◌, ◌<◌, ◌≤◌, ◌+◌, ◌*◌, ◌/◌, ℕ, true, List, [], length, codes, Option, Some, None}
+use Rattle.std.specs.List.{AllByRecursion}
+use Rattle.board_rule.specs.Passes.{view}
+use Rattle.board_rule.specs.declared.board.Pass.{Pass}
 use Rattle.counts.specs.Counts.{Rose}
 use Rattle.history_sizes.specs.Sizes.{new_keys, longest_new}
+use Rattle.index_lane.specs.Causes.{Fits}
 use Rattle.line_protocol.specs.Served.{served}
 use Rattle.line_reader.specs.declared.limits.TheConstants.{MOST_INPUT}
 use Rattle.map_model.specs.History.{Entry, IsLegal}
@@ -13,11 +17,10 @@ use Rattle.session.specs.Sessions.{Session}
 use Rattle.session.specs.declared.session.SessionEnd.{SessionEnd}
 use Rattle.session.specs.declared.session.SessionEnd.TheVariants.{Quit, EndOfInput, ReadFault, WriteFault, NoMemory, Spent}
 use Rattle.sole_sessions.specs.PlainHistory.{plain_history}
-use Rattle.solo_index.specs.Standing.{Fits}
 
--- done, words that are no command, a read fault, a write fault, no memory, or an input that is too long
+-- done, words that are no command, a read fault, a write fault, no memory, a door fault, or an input that is too long
 abbrev pub IsStatus : ℕ → Type 0
-IsStatus status = (status ≡ 0) ⊎ (status ≡ 2) ⊎ (status ≡ 3) ⊎ (status ≡ 4) ⊎ (status ≡ 5) ⊎ (status ≡ 7)
+IsStatus status = (status ≡ 0) ⊎ (status ≡ 2) ⊎ (status ≡ 3) ⊎ (status ≡ 4) ⊎ (status ≡ 5) ⊎ (status ≡ 6) ⊎ (status ≡ 7)
 
 -- the status of a session's end
 abbrev pub status_of : SessionEnd → ℕ
@@ -36,6 +39,10 @@ most_bytes = MOST_INPUT
 abbrev pub IsNew : List Entry → Type 0
 IsNew history = history ≡ []
 
+-- just this history
+abbrev pub IsJust : List Entry → List Entry → Type 0
+IsJust seen history = history ≡ seen
+
 -- What one ordered map puts of these lines is within the numbers of a shape: so many keys may live, so many leaves may be made for them, and so many prefixes of anchors.
 pub record IsWithin (k : Shape) (lines : List (List ℕ)) : Type 0 where
   pub keys : new_keys (plain_history lines) < k.values
@@ -46,18 +53,29 @@ pub record IsWithin (k : Shape) (lines : List (List ℕ)) : Type 0 where
 abbrev pub IsComplete : ℕ → List ℕ → List ℕ → Type 0
 IsComplete status bytes output = ((status ≡ 0) × (output ≡ plain_output bytes)) ⊎ (status ≡ 5) ⊎ HasLine (codes "NOMEM") output
 
--- What a run took and wrote.
-pub record Ran (k : Shape) (status : ℕ) (told_before told_now : Option Told) (written_before written_now : Option (List ℕ)) (reads_before reads_now writes_before writes_now : ℕ) : Type 0 where
+-- the history is legal, and all its calls are those of the first lane
+pub record IsFirstLanes (seen : List Entry) : Type 0 where
+  pub legal : IsLegal seen
+  pub first : AllByRecursion (λ (e : Entry). e.lane ≡ 0) seen
+
+-- What a run took and wrote, and what its lane had seen at its end.
+pub record Ran (k : Shape) (status : ℕ) (told_before told_now : Option Told) (written_before written_now : Option (List ℕ)) (reads_before reads_now writes_before writes_now : ℕ) (seen : List Entry) : Type 0 where
+  pub mine : IsFirstLanes seen
   -- a session of an index that is the only lane came to this end
   pub end : SessionEnd
   pub of_end : status ≡ status_of end
-  -- it grew a legal history from nothing, its output is the transcript, and want of room was told only where there is none
+  -- what the lane had seen is a legal history from nothing, its output is the transcript of these calls, and want of room was told only where there is none
   pub refusals : ℕ
   pub last : Option Refusal
-  pub session : Session end most_bytes told_before told_now written_before written_now (Some 1) 0 true (Fits k) 0 refusals None last IsNew IsLegal
+  pub session : Session end most_bytes told_before told_now written_before written_now (Some 1) 0 true (Fits k) 0 refusals None last IsNew (IsJust seen)
   -- where no line tells a refusal, its output is what one ordered map answers
   pub plain : PlainSession end most_bytes told_before told_now written_before written_now
   -- and where nothing failed, the input had fewer bytes than the most, and what its lines put is within the shape, all of that was written unless memory was wanting
   pub complete : (Rose reads_before reads_now → ⊥) → (Rose writes_before writes_now → ⊥) → length plain.bytes < most_bytes → IsWithin k (served plain.bytes true) → IsComplete status plain.bytes plain.output
   -- where what its lines put is within the shape, none tells want of room, also where one tells want of memory or something failed
   pub never_full : IsWithin k (served plain.bytes true) → HasLine (codes "FULL") plain.output → ⊥
+
+-- What a run did, by the pass that it returns. Without one no index could be made, and nothing was read or written.
+abbrev pub RanWith : Shape → ℕ → Option Told → Option Told → Option (List ℕ) → Option (List ℕ) → ℕ → ℕ → ℕ → ℕ → Option Pass → Type 0
+RanWith k status told_before told_now written_before written_now reads_before reads_now writes_before writes_now None = (status ≡ 5) × (told_now ≡ told_before) × (written_now ≡ written_before)
+RanWith k status told_before told_now written_before written_now reads_before reads_now writes_before writes_now (Some pass) = Ran k status told_before told_now written_before written_now reads_before reads_now writes_before writes_now (view pass).seen

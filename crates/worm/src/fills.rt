@@ -2,15 +2,16 @@
 ghost use Rattle.std.specs.Prelude.{◌≡◌, ◌⊎◌};
 ghost use Rattle.counts.specs.Counts.{Rose};
 ghost use Rattle.row_words.specs.Shape.{IsShape};
-ghost use Rattle.worm.specs.Fills.{Filled, fill_status};
+ghost use Rattle.worm.specs.Fills.{FilledWith, fill_status};
 
 use crate::top::Outcome;
 use fill_runs::{FillEnd, fill};
+use index_lane::Lane;
 use outside::Sink;
 use row_words::Shape;
-use solo_index::Solo;
 use std::alloc::Global;
 use std::mem;
+use worm_index::Index;
 
 /// Serves the lines that a number and a count make as one session, which begins with an empty index of this shape,
 /// and writes the summary of its replies. The index keeps its memory until the process ends.
@@ -23,20 +24,26 @@ pub fn run_fill<K: Sink>(
 ) -> Outcome
     requires { IsShape shape.now }
     ensures status { (result.status ≡ 0) ⊎ (result.status ≡ 4) ⊎ (result.status ≡ 5) }
-    ensures filled { Filled shape.now number count result.status (K.written sink.old) (K.written sink.new) }
+    ensures filled { FilledWith shape.now number count result.status (K.written sink.old) (K.written sink.new) result.pass }
     ensures write_fault { result.status ≡ 4 → Rose (K.faults sink.old) (K.faults sink.new) }
 {
-    match Solo::make(alloc, shape) {
-        Ok(mut index) => {
-            let end = fill(alloc, &mut index, number, count, sink);
+    match Index::make(alloc, shape) {
+        Ok((index, pass)) => {
+            let mut lane = Lane::new(&index, pass);
+            let end = fill(alloc, &mut lane, number, count, sink);
+            let pass = lane.into_pass();
             // As at the end of a script.
             mem::forget(index);
             Outcome {
                 status: status_of(end),
+                pass: Some(pass),
             }
         }
         // A shape that is one is refused for want of memory alone.
-        Err(_) => Outcome { status: 5 },
+        Err(_) => Outcome {
+            status: 5,
+            pass: None,
+        },
     }
 }
 

@@ -1,24 +1,32 @@
-//! The program of Muslinscree: `worm run` answers the requests of standard input over an ordered index, on standard
-//! output, and `worm fill` answers requests that it makes and writes a summary.
+//! The program of Muslinscree. Over an ordered index in memory `worm run` answers the requests of standard input on
+//! standard output, `worm lanes` lets several lanes answer them at once, `worm serve` answers those of TCP clients, and
+//! `worm fill` answers requests that it makes and writes a summary.
 #![tactic(auto)]
 
 mod fills;
+mod lanes;
 mod script;
+mod servers;
 #[cfg(test)]
 mod tests;
 mod top;
 
 use standard_ends::{Outgoing, StdSink, StdSource};
+use std::alloc::Global;
 use std::cell::RefCell;
-use std::io::{ErrorKind, Write};
+use std::io::{ErrorKind, Read, Write};
+use std::net::{Net, TcpListener, TcpStream};
 use std::process::ExitCode;
 use std::rt::Env;
+use std::sync::Wait;
+use std::thread::Threads;
 use std::{env, io};
-use top::{Outcome, worm};
+use tcp_ends::TcpDoor;
+use top::worm;
 
 fn main(rt: HostRuntime) -> ExitCode {
-    let Outcome { status } = match words(&rt) {
-        Ok(words) => over_standard_ends(&rt, &words),
+    let status = match words(&rt) {
+        Ok(words) => over_ends(&rt, rt.alloc(), &words, rt.stdin(), rt.stdout()),
         Err(error) => unread_words(&error),
     };
     if let Some(fault) = fault_text(status) {
@@ -28,26 +36,34 @@ fn main(rt: HostRuntime) -> ExitCode {
     ExitCode::from(status)
 }
 
-/// Carries out the command over standard input and output. Replies that can't be handed on at its end are a write
-/// fault as well, however it ended.
-fn over_standard_ends(rt: &HostRuntime, words: &Vec<String>) -> Outcome {
-    let outgoing = RefCell::new(Outgoing::new(rt.alloc(), rt.stdout()));
-    let outcome = between_ends(rt, words, &outgoing);
+/// Carries out the command over a reader, a writer and TCP, and answers its status. Replies that can't be handed on at
+/// its end are a write fault as well, however it ended.
+fn over_ends<
+    R: Threads + Wait + Net<Listener = TcpListener, Stream = TcpStream> + Sync,
+    I: Read + Drop,
+    W: Write + Drop,
+>(rt: &R, alloc: Global, words: &Vec<String>, reader: I, writer: W) -> u8 {
+    let outgoing = RefCell::new(Outgoing::new(alloc, writer));
+    let status = between_ends(rt, alloc, words, reader, &outgoing);
     match outgoing.into_inner().finish() {
-        Some(_) => outcome,
-        None => Outcome { status: 4 },
+        Some(_) => status,
+        None => 4,
     }
 }
 
-/// Carries out the command over standard input and what goes to standard output.
-fn between_ends<W: Write>(
-    rt: &HostRuntime,
-    words: &Vec<String>,
-    outgoing: &RefCell<Outgoing<W>>,
-) -> Outcome {
-    match StdSource::new(rt.alloc(), rt.stdin(), outgoing) {
-        Ok(mut source) => worm(rt.alloc(), words, &mut source, &mut StdSink::new(outgoing)),
-        Err(_) => Outcome { status: 5 },
+/// Carries out the command over a reader, TCP, and what goes to a writer.
+fn between_ends<
+    R: Threads + Wait + Net<Listener = TcpListener, Stream = TcpStream> + Sync,
+    I: Read + Drop,
+    W: Write + Drop,
+>(rt: &R, alloc: Global, words: &Vec<String>, reader: I, outgoing: &RefCell<Outgoing<W>>) -> u8 {
+    match StdSource::new(alloc, reader, outgoing) {
+        Ok(mut source) => {
+            let mut sink = StdSink::new(outgoing);
+            let mut door = TcpDoor::new(rt, alloc);
+            worm(rt, alloc, words, &mut source, &mut sink, &mut door).status
+        }
+        Err(_) => 5,
     }
 }
 
@@ -56,11 +72,11 @@ fn words(rt: &(impl Env + AllocGlobal)) -> io::Result<Vec<String>> {
     Ok(env::args(rt)?.skip(1).collect(rt.alloc())?)
 }
 
-/// How the program ends where its words can't be read: a word that isn't UTF-8 is no command's.
-fn unread_words(error: &io::Error) -> Outcome {
+/// The status where the words can't be read: a word that isn't UTF-8 is no command's.
+fn unread_words(error: &io::Error) -> u8 {
     match error.kind() {
-        ErrorKind::InvalidData => Outcome { status: 2 },
-        _ => Outcome { status: 5 },
+        ErrorKind::InvalidData => 2,
+        _ => 5,
     }
 }
 
@@ -72,6 +88,7 @@ fn fault_text(status: u8) -> Option<&'static str> {
         3 => Some("read fault"),
         4 => Some("write fault"),
         5 => Some("no memory"),
+        6 => Some("door fault"),
         _ => Some("input too long"),
     }
 }

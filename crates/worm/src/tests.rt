@@ -1,10 +1,11 @@
-//! Runs over sources and sinks in memory.
+//! Commands over sources, sinks and doors in memory.
 use super::fault_text;
-use crate::top::{Outcome, worm};
-use outside::{MemSink, MemSource, Source};
+use crate::top::worm;
+use outside::{MemDoor, MemSink, MemSource, Source};
 use std::alloc::{AllocError, Global};
 use std::process::Abort;
-use std::test::Fail;
+use std::sync::Wait;
+use std::thread::Threads;
 
 // Requests, and the lines that answer them.
 const SCRIPTS: [(&[u8], &[u8]); 10] = [
@@ -54,28 +55,72 @@ fn words(alloc: Global, texts: &[&str]) -> Result<Vec<String>, AllocError> {
     Ok(words)
 }
 
-// A run of a script whose reads and writes with these numbers fail: its status, and its output.
-fn run(
-    alloc: Global,
-    script: &[u8],
-    piece: usize,
-    reads: &[u64],
-    writes: &[u64],
-) -> Result<(u8, Vec<u8>), AllocError> {
-    let mut source = MemSource::new(alloc, script, piece.max(1), reads)?;
-    let mut sink = MemSink::new(alloc, writes)?;
-    let words = words(alloc, &["run"])?;
-    let Outcome { status } = worm(alloc, &words, &mut source, &mut sink);
-    Ok((status, sink.bytes().to_vec(alloc)?))
+// The ends of a command over an input that is read in pieces, and of whose reads and writes some fail. Its door has no
+// connections.
+#[derive(Drop)]
+struct Ends {
+    source: MemSource,
+    sink: MemSink,
+    door: MemDoor,
 }
 
-// The status and the output of a command over an input.
-fn command(alloc: Global, texts: &[&str], script: &[u8]) -> Result<(u8, Vec<u8>), AllocError> {
-    let mut source = MemSource::new(alloc, script, 4096, &[])?;
-    let mut sink = MemSink::new(alloc, &[])?;
-    let words = words(alloc, texts)?;
-    let Outcome { status } = worm(alloc, &words, &mut source, &mut sink);
-    Ok((status, sink.bytes().to_vec(alloc)?))
+impl Ends {
+    fn new(
+        alloc: Global,
+        input: &[u8],
+        piece: usize,
+        reads: &[u64],
+        writes: &[u64],
+    ) -> Result<Ends, AllocError> {
+        Ok(Ends {
+            source: MemSource::new(alloc, input, piece.max(1), reads)?,
+            sink: MemSink::new(alloc, writes)?,
+            door: MemDoor::new(alloc, Vec::new(alloc), &[])?,
+        })
+    }
+}
+
+// Whether a command ends with this status and writes this.
+fn ends_so<R: Threads + Wait + Sync>(
+    rt: &R,
+    alloc: Global,
+    texts: &[&str],
+    mut ends: Ends,
+    status: u8,
+    want: &[u8],
+) -> bool {
+    let Ok(words) = words(alloc, texts) else {
+        return false;
+    };
+    let outcome = worm(
+        rt,
+        alloc,
+        &words,
+        &mut ends.source,
+        &mut ends.sink,
+        &mut ends.door,
+    );
+    outcome.status == status && ends.sink.bytes() == want
+}
+
+// Whether a command does all of its input, and writes this.
+fn writes<R: Threads + Wait + Sync>(
+    rt: &R,
+    alloc: Global,
+    texts: &[&str],
+    input: &[u8],
+    piece: usize,
+    want: &[u8],
+) -> bool {
+    match Ends::new(alloc, input, piece, &[], &[]) {
+        Ok(ends) => ends_so(rt, alloc, texts, ends, 0, want),
+        Err(_) => false,
+    }
+}
+
+// Whether a script has these answers, in small pieces and in large ones.
+fn answers<R: Threads + Wait + Sync>(rt: &R, alloc: Global, script: &[u8], want: &[u8]) -> bool {
+    writes(rt, alloc, &["run"], script, 1, want) && writes(rt, alloc, &["run"], script, 4096, want)
 }
 
 fn repeated(
@@ -93,80 +138,95 @@ fn repeated(
     Ok(bytes)
 }
 
-#[test]
-fn scripts_are_answered_however_they_are_read(rt: HostRuntime) -> Result<(), Fail> {
-    for (script, want) in SCRIPTS {
-        for piece in [1, 4096] {
-            let (status, output) = run(rt.alloc(), script, piece, &[], &[])?;
-            assert_eq!(rt; status, 0);
-            assert_eq!(rt; output.as_slice(), want);
+fn answers_scripts<R: Threads + Wait + Sync>(rt: &R, alloc: Global) -> bool {
+    SCRIPTS
+        .iter()
+        .all(|(script, want)| answers(rt, alloc, script, want))
+}
+
+fn answers_long_words<R: Threads + Wait + Sync>(rt: &R, alloc: Global) -> bool {
+    LONG_WORDS.iter().all(|(front, word, count, back, want)| {
+        match repeated(alloc, front, word, *count, back) {
+            Ok(script) => answers(rt, alloc, &script, want),
+            Err(_) => false,
         }
-    }
-    Ok(())
+    })
 }
 
 #[test]
-fn long_words_are_answered_however_they_are_read(rt: HostRuntime) -> Result<(), Fail> {
-    for (front, word, count, back, want) in LONG_WORDS {
-        let script = repeated(rt.alloc(), front, word, count, back)?;
-        for piece in [1, 4096] {
-            let (status, output) = run(rt.alloc(), &script, piece, &[], &[])?;
-            assert_eq!(rt; status, 0);
-            assert_eq!(rt; output.as_slice(), want);
+fn scripts_are_answered_however_they_are_read(rt: HostRuntime) {
+    assert!(rt; answers_scripts(&rt, rt.alloc()));
+    assert!(rt; answers_long_words(&rt, rt.alloc()));
+}
+
+// Whether a read that fails, and a write that does, ends a run with its status.
+fn tells_faults<R: Threads + Wait + Sync>(rt: &R, alloc: Global) -> bool {
+    let reading = Ends::new(alloc, b"PUT a 1\nGET a\nGE", 4096, &[2], &[]);
+    let writing = Ends::new(alloc, b"PUT a 1\nGET a\n", 4096, &[], &[1]);
+    match (reading, writing) {
+        (Ok(reading), Ok(writing)) => {
+            ends_so(rt, alloc, &["run"], reading, 3, b"NEW\nVALUE 1\n")
+                && ends_so(rt, alloc, &["run"], writing, 4, b"")
         }
+        _ => false,
     }
-    Ok(())
+}
+
+// Words that are no command.
+const NO_COMMANDS: [&[&str]; 11] = [
+    &[],
+    &["walk"],
+    &["lanes", "0"],
+    &["lanes", "17"],
+    &["run", "extra"],
+    &["Run"],
+    &["run "],
+    &["run", "--soft", "3"],
+    &["run", "--lanes", "65"],
+    &["run", "--soft", "64", "--soft", "64"],
+    &["serve", "x", "--workers", "17"],
+];
+
+// Whether words are no command, and nothing is read, written or returned.
+fn is_no_command<R: Threads + Wait + Sync>(rt: &R, alloc: Global, texts: &[&str]) -> bool {
+    let (Ok(words), Ok(mut ends)) = (
+        words(alloc, texts),
+        Ends::new(alloc, b"GET a\n", 9, &[], &[]),
+    ) else {
+        return false;
+    };
+    let outcome = worm(
+        rt,
+        alloc,
+        &words,
+        &mut ends.source,
+        &mut ends.sink,
+        &mut ends.door,
+    );
+    outcome.status == 2
+        && outcome.pass.is_none()
+        && ends.source.read(&mut [0; 9]) == Ok(6)
+        && ends.sink.bytes().is_empty()
+}
+
+fn knows_its_commands<R: Threads + Wait + Sync>(rt: &R, alloc: Global) -> bool {
+    NO_COMMANDS
+        .iter()
+        .all(|texts| is_no_command(rt, alloc, texts))
 }
 
 #[test]
-fn a_read_that_fails_ends_the_run(rt: HostRuntime) -> Result<(), Fail> {
-    let (status, output) = run(rt.alloc(), b"PUT a 1\nGET a\nGE", 4096, &[2], &[])?;
-    assert_eq!(rt; status, 3);
-    assert_eq!(rt; output.as_slice(), b"NEW\nVALUE 1\n".as_slice());
-    Ok(())
+fn faults_and_other_words_end_with_their_statuses(rt: HostRuntime) {
+    assert!(rt; tells_faults(&rt, rt.alloc()));
+    assert!(rt; knows_its_commands(&rt, rt.alloc()));
 }
 
-#[test]
-fn a_write_that_fails_ends_the_run(rt: HostRuntime) -> Result<(), Fail> {
-    let (status, output) = run(rt.alloc(), b"PUT a 1\nGET a\n", 4096, &[], &[1])?;
-    assert_eq!(rt; status, 4);
-    assert_eq!(rt; output.len(), 0);
-    Ok(())
-}
-
-#[test]
-fn other_words_read_and_write_nothing(rt: HostRuntime) -> Result<(), Fail> {
-    let commands: [&[&str]; 12] = [
-        &[],
-        &["walk"],
-        &["lanes", "0"],
-        &["lanes", "17"],
-        &["lanes", "2"],
-        &["serve", "127.0.0.1:0"],
-        &["run", "extra"],
-        &["Run"],
-        &["run "],
-        &["run", "--soft", "3"],
-        &["run", "--lanes", "65"],
-        &["run", "--soft", "64", "--soft", "64"],
-    ];
-    for command in commands {
-        let mut source = MemSource::new(rt.alloc(), b"GET a\n", 9, &[])?;
-        let mut sink = MemSink::new(rt.alloc(), &[])?;
-        let words = words(rt.alloc(), command)?;
-        assert_eq!(rt; worm(rt.alloc(), &words, &mut source, &mut sink).status, 2);
-        assert_eq!(rt; source.read(&mut [0; 9]), Ok(6));
-        assert_eq!(rt; sink.bytes().len(), 0);
-    }
-    Ok(())
-}
-
-// Commands with shapes, their inputs, and the lines that answer them.
-const SHAPES: [(&[&str], &[u8], &[u8]); 2] = [
+// Commands, their inputs, and what they write; of fills it is what another program's map answered to the same lines.
+const COMMANDS: [(&[&str], &[u8], &[u8]); 5] = [
     (
-        &["run", "--values", "2"],
-        b"PUT a 1\nPUT b 2\nPUT c 3\nPUT a 4\nDEL a\nPUT c 3\n",
-        b"NEW\nNEW\nFULL values 2 2\nFULL values 2 2\nGONE\nNEW\n",
+        &["lanes", "2"],
+        b"0 PUT a 1\n1 PUT b 2\n0 GET a\n1 GET b\n2 GET a\n",
+        b"ERR 7 lane\nLANE 0\nNEW\nVALUE 1\nLANE 1\nNEW\nVALUE 2\n",
     ),
     (
         &[
@@ -183,42 +243,26 @@ const SHAPES: [(&[&str], &[u8], &[u8]); 2] = [
         b"PUT a 1\nPUT b 1\nPUT c 1\nPUT d 1\nPUT a 9\nDEL a\nPUT d 1\n",
         b"NEW\nNEW\nNEW\nFULL crowded 3 3\nSET\nGONE\nNEW\n",
     ),
-];
-
-#[test]
-fn a_shape_bounds_what_is_put(rt: HostRuntime) -> Result<(), Fail> {
-    for (texts, script, want) in SHAPES {
-        let (status, output) = command(rt.alloc(), texts, script)?;
-        assert_eq!(rt; status, 0);
-        assert_eq!(rt; output.as_slice(), want);
-    }
-    Ok(())
-}
-
-// Fills, and what another program's map answered to the same lines.
-const FILLS: [(&[&str], &[u8]); 3] = [
     (
         &["fill", "1", "1"],
+        b"",
         b"LINES 1\nNEW 1\nSET 0\nVALUE 0\nNONE 0\nGONE 0\nPAIR 0\nEND 0\nFULL 0\nNOMEM 0\n",
     ),
     (
         &["fill", "1", "0"],
+        b"",
         b"LINES 0\nNEW 0\nSET 0\nVALUE 0\nNONE 0\nGONE 0\nPAIR 0\nEND 0\nFULL 0\nNOMEM 0\n",
     ),
     (
         &["fill", "7", "5000"],
+        b"",
         b"LINES 5000\nNEW 2242\nSET 264\nVALUE 198\nNONE 1911\nGONE 74\nPAIR 6052\nEND 311\nFULL 0\nNOMEM 0\n",
     ),
 ];
 
-#[test]
-fn a_fill_writes_its_summary(rt: HostRuntime) -> Result<(), Fail> {
-    for (texts, want) in FILLS {
-        let (status, output) = command(rt.alloc(), texts, b"")?;
-        assert_eq!(rt; status, 0);
-        assert_eq!(rt; output.as_slice(), want);
-    }
-    Ok(())
+// Whether each of the commands writes what it should.
+fn writes_all<R: Threads + Wait + Sync>(rt: &R, alloc: Global) -> bool {
+    COMMANDS.iter().all(|(texts, input, want)| writes(rt, alloc, texts, input, 4096, want))
 }
 
 // A web address.
@@ -259,13 +303,77 @@ fn addresses(alloc: Global) -> Result<(Vec<u8>, Vec<u8>), AllocError> {
     Ok((script, want))
 }
 
+fn answers_addresses<R: Threads + Wait + Sync>(rt: &R, alloc: Global) -> bool {
+    match addresses(alloc) {
+        Ok((script, want)) => writes(rt, alloc, &["run"], &script, 4096, &want),
+        Err(_) => false,
+    }
+}
+
 #[test]
-fn web_addresses_are_found_and_scanned(rt: HostRuntime) -> Result<(), Fail> {
-    let (script, want) = addresses(rt.alloc())?;
-    let (status, output) = run(rt.alloc(), &script, 4096, &[], &[])?;
-    assert_eq!(rt; status, 0);
-    assert!(rt; output == want);
-    Ok(())
+fn commands_write_what_they_should(rt: HostRuntime) {
+    assert!(rt; writes_all(&rt, rt.alloc()));
+    assert!(rt; answers_addresses(&rt, rt.alloc()));
+}
+
+// A door with two clients, of whose calls some fail.
+fn door_of_two(alloc: Global, fails: &[u64]) -> Result<MemDoor, AllocError> {
+    let mut inputs = Vec::new(alloc);
+    inputs.push(b"PUT a 1".to_vec(alloc)?)?;
+    inputs.push(b"GET a".to_vec(alloc)?)?;
+    MemDoor::new(alloc, inputs, fails)
+}
+
+// Whether a server of two clients by one worker ends with this status, and returns a pass where it should.
+fn serves<R: Threads + Wait + Sync>(
+    rt: &R,
+    alloc: Global,
+    sessions: &str,
+    fails: &[u64],
+    status: u8,
+    want: &[&[u8]],
+) -> bool {
+    let (Ok(words), Ok(mut ends), Ok(mut door)) = (
+        words(
+            alloc,
+            &["serve", "x", "--workers", "1", "--sessions", sessions],
+        ),
+        Ends::new(alloc, b"GET a\n", 9, &[], &[]),
+        door_of_two(alloc, fails),
+    ) else {
+        return false;
+    };
+    let outcome = worm(
+        rt,
+        alloc,
+        &words,
+        &mut ends.source,
+        &mut ends.sink,
+        &mut door,
+    );
+    outcome.status == status
+        && outcome.pass.is_none() == fails.contains(&1)
+        && ends.sink.bytes().is_empty()
+        && door.outputs().len() == want.len()
+        && door
+            .outputs()
+            .iter()
+            .zip(want)
+            .all(|(output, want)| output.bytes() == *want)
+}
+
+fn serves_clients<R: Threads + Wait + Sync>(rt: &R, alloc: Global) -> bool {
+    let both = [b"NEW\n".as_slice(), b"VALUE 1\n"];
+    serves(rt, alloc, "2", &[], 0, &both)
+        && serves(rt, alloc, "3", &[], 6, &both)
+        && serves(rt, alloc, "2", &[1], 6, &[])
+        && serves(rt, alloc, "2", &[2], 6, &[])
+        && serves(rt, alloc, "2", &[3], 6, &both[..1])
+}
+
+#[test]
+fn a_server_answers_each_client(rt: HostRuntime) {
+    assert!(rt; serves_clients(&rt, rt.alloc()));
 }
 
 #[test]
@@ -276,6 +384,7 @@ fn each_status_has_its_text(rt: HostRuntime) {
         (3, "read fault"),
         (4, "write fault"),
         (5, "no memory"),
+        (6, "door fault"),
         (7, "input too long"),
     ];
     for (status, text) in texts {

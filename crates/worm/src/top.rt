@@ -1,17 +1,23 @@
-//! The program as a call over any source and sink.
-ghost use Rattle.std.specs.Prelude.{◌≡◌, ◌↔◌, map, string_bytes};
+//! The program as a call over any source, sink and door.
+ghost use Rattle.std.specs.Prelude.{◌≡◌, ◌↔◌, map, string_bytes, None};
 ghost use Rattle.command_line.specs.Commands.{command};
 ghost use Rattle.counts.specs.Counts.{Rose};
-ghost use Rattle.worm.specs.Commands.{Did, IsUnknown, ReadsNothing};
+ghost use Rattle.worm.specs.Commands.{Did, OpensNothing, ReadsNothing, WritesNothing, ends};
 ghost use Rattle.worm.specs.Runs.{IsStatus};
 
 use crate::fills::run_fill;
+use crate::lanes::run_lanes;
 use crate::script::run_script;
+use crate::servers::run_server;
+use board_rule::Pass;
 use command_line::{Command, read_command};
-use outside::{Sink, Source};
+use outside::{Door, Sink, Source};
 use std::alloc::Global;
+use std::sync::Wait;
+use std::thread::Threads;
 
-/// How a command ended.
+/// How a command ended, and the pass of its first lane, where an index was made. What the pass has seen are the calls
+/// that were answered.
 ///
 /// | status | the command |
 /// |---|---|
@@ -20,34 +26,57 @@ use std::alloc::Global;
 /// | 3 | couldn't read its input |
 /// | 4 | couldn't write its output |
 /// | 5 | had no memory |
+/// | 6 | couldn't listen, or accept a connection |
 /// | 7 | took the most bytes of an input without another end |
-#[derive(Clone, Copy, Debug, PartialEq, Eq)]
+#[derive(Drop)]
 pub struct Outcome {
     pub status: u8,
+    pub pass: Option<Pass>,
 }
 
 /// Carries out the command of these words, which are those after the program's name.
-pub fn worm<S: Source, K: Sink>(
+pub fn worm<R: Threads + Wait + Sync, S: Source, K: Sink, D: Door + Send>(
+    rt: &R,
     alloc: Global,
     words: &Vec<String>,
     source: &mut S,
     sink: &mut K,
+    door: &mut D,
 ) -> Outcome
-    ensures words { (result.status ≡ 2) ↔ IsUnknown (command (map string_bytes words.now.items)) }
-    ensures untouched { result.status ≡ 2 → (source.new ≡ source.old) × (sink.new ≡ sink.old) }
+    ensures words { (result.status ≡ 2) ↔ (command (map string_bytes words.now.items) ≡ None) }
     ensures unread { ReadsNothing (command (map string_bytes words.now.items)) → source.new ≡ source.old }
+    ensures unwritten { WritesNothing (command (map string_bytes words.now.items)) → sink.new ≡ sink.old }
+    ensures unopened { OpensNothing (command (map string_bytes words.now.items)) → door.new ≡ door.old }
     ensures status { IsStatus result.status }
     ensures did { Did (command (map string_bytes words.now.items)) result.status
-        (S.told source.old) (S.told source.new) (K.written sink.old) (K.written sink.new)
-        (S.faults source.old) (S.faults source.new) (K.faults sink.old) (K.faults sink.new) }
+        (ends (S.told source.old) (S.faults source.old) (K.written sink.old) (K.faults sink.old) (D.closed door.old) (D.closings door.old))
+        (ends (S.told source.new) (S.faults source.new) (K.written sink.new) (K.faults sink.new) (D.closed door.new) (D.closings door.new))
+        result.pass }
     ensures read_fault { result.status ≡ 3 → Rose (S.faults source.old) (S.faults source.new) }
     ensures write_fault { result.status ≡ 4 → Rose (K.faults sink.old) (K.faults sink.new) }
+    ensures door_fault { result.status ≡ 6 → Rose (D.faults door.old) (D.faults door.new) }
 {
     match read_command(words) {
-        None => Outcome { status: 2 },
-        // Nothing carries these out yet.
-        Some(Command::Lanes { .. } | Command::Serve { .. }) => Outcome { status: 2 },
+        None => Outcome {
+            status: 2,
+            pass: None,
+        },
         Some(Command::Run { shape }) => run_script(alloc, &shape, source, sink),
+        Some(
+            Command::Lanes {
+                count,
+                tries,
+                shape,
+            },
+        ) => run_lanes(rt, alloc, &shape, count, tries, source, sink),
+        Some(
+            Command::Serve {
+                address,
+                workers,
+                sessions,
+                shape,
+            },
+        ) => run_server(rt, alloc, &shape, address, workers, sessions, door),
         Some(
             Command::Fill {
                 number,

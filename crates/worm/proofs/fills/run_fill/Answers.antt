@@ -1,12 +1,14 @@
-use Rattle.std.proofs.Common.{ap, refl, arith}
-use Rattle.solo_index.specs.Standing.{Store}
-use Rattle.worm.proofs.Filling.{filled, filled_nothing}
+use Rattle.std.proofs.Common.{ap, ◌∙◌, arith}
+use Rattle.board_rule.specs.Passes.{lane_of, view}
+use Rattle.board_rule.specs.declared.board.Pass.{Pass}
+use Rattle.worm_index.specs.declared.index.Index.{Index}
+use Rattle.worm.proofs.Filling.{filled}
 use Rattle.worm.proofs.fills.run_fill.Goals as goal
 
 pub returns-in-Ok-clause-filled : goal.returns-in-Ok-clause-filled
 returns-in-Ok-clause-filled g c =
-    let made = c.in-Ok.ensures.ok in
-    filled _ _ _ _ _ c.fill-end.result _ _ _ _ _ _ _ _ (ap (λ (s : Store). s.table.shape) made) (ap (λ (s : Store). s.refusals) made) (ap (λ (s : Store). s.last) made) c.requires (omega arith) c.status_of.ensures c.in-Ok.ensures.stands c.fill-end.ensures.filled
-
-pub returns-in-Err-clause-filled : goal.returns-in-Err-clause-filled
-returns-in-Err-clause-filled g c = filled_nothing _ _ _ _ _ (omega arith) refl
+    let made = c.in-Ok.ensures in
+    let lane = c.new-lane.ensures in
+    filled _ c.new-lane.result.index.now.board.shape _ _ _ c.fill-end.result _ _ _ _ _ _ _ _ _ _ _
+    (ap (λ (i : Index). i.board.shape) lane.index ∙ made.shape) (ap lane_of (lane.pass.0 ∙ made.lane)) (lane.pass.1 ∙ made.sole) lane.counted.0 lane.counted.1 lane.seen (ap (λ (p : Pass). (view p).seen) c.into_pass-pass.ensures)
+    c.requires (omega arith) c.status_of.ensures c.fill-end.ensures.filled

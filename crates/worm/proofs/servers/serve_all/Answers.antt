@@ -1,0 +1,15 @@
+use Rattle.std.proofs.Common.{ap, ◌∙◌}
+use Rattle.board_rule.specs.Passes.{lane_of, view}
+use Rattle.board_rule.specs.declared.board.Pass.{Pass}
+use Rattle.worm_index.specs.declared.index.Index.{Index}
+use Rattle.worm.proofs.Serving.{served}
+use Rattle.worm.proofs.servers.serve_all.Goals as goal
+
+pub returns-in-Ok-clause-served : goal.returns-in-Ok-clause-served
+returns-in-Ok-clause-served g c =
+    let made = c.in-Ok.ensures in
+    let lane = c.new-lane.ensures in
+    let status = c.serve_lanes-status.ensures in
+    served _ c.new-lane.result.index.now.board.shape _ _ _ _ _ _ _ _ _ _ _ _ _ _ _ _
+    (ap (λ (i : Index). i.board.shape) lane.index ∙ made.shape) (ap lane_of (lane.pass.0 ∙ made.lane)) (lane.pass.1 ∙ made.sole) lane.counted.0 lane.counted.1 lane.seen (ap (λ (p : Pass). (view p).seen) c.into_pass-pass.ensures)
+    status.status c.serve_lanes-status.new.first.steady.legal status.done status.wanting status.alone
