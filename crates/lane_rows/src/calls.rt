@@ -1,4 +1,6 @@
 //! Each call of a lane through a session, and a fork with its end.
+ghost use Rattle.std.specs.Prelude.{◌≡◌};
+
 use index_lane::Lane;
 use map_model::{ForkFault, Lanes, Ordered};
 use outside::{MemSink, MemSource};
@@ -20,7 +22,9 @@ const SMALL: Shape = Shape {
 };
 
 // Whether a store answers these lines so.
-fn answers_so<O: Ordered>(alloc: Global, store: &mut O, lines: &[u8], want: &[u8]) -> bool {
+fn answers_so<O: Ordered>(alloc: Global, store: &mut O, lines: &[u8], want: &[u8]) -> bool
+    ensures { O.origin store.new ≡ O.origin store.old }
+{
     let (Ok(mut source), Ok(mut sink)) = (
         MemSource::new(alloc, lines, 7, &[]),
         MemSink::new(alloc, &[]),
