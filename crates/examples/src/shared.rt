@@ -23,6 +23,17 @@ fn put<T: Lanes>(mut lane: T, key: &Key) -> (T, bool)
     (lane, false)
 }
 
+// Two threads put a key each, by a lane and a fork of it.
+fn by_two<R: Threads + Sync, T: Lanes>(rt: &R, mut first: T, a: &Key, b: &Key) -> bool {
+    let Ok(second) = first.fork() else {
+        return false;
+    };
+    let ((mut first, one), (second, two)) = join(rt, move || put(first, a), move || put(second, b));
+    second.end(&mut first);
+    let (_, again) = put(first, b);
+    one && two && !again
+}
+
 fn shared<R: Threads + Sync>(rt: &R, alloc: Global) -> bool {
     let (Ok((index, pass)), Ok(a), Ok(b)) = (
         Index::make(alloc, &Shape::standard()),
@@ -31,15 +42,7 @@ fn shared<R: Threads + Sync>(rt: &R, alloc: Global) -> bool {
     ) else {
         return false;
     };
-    let mut first = Lane::new(&index, pass);
-    let Ok(second) = first.fork() else {
-        return false;
-    };
-    let (a, b) = (&a, &b);
-    let ((mut first, one), (second, two)) = join(rt, move || put(first, a), move || put(second, b));
-    second.end(&mut first);
-    let (_, again) = put(first, b);
-    one && two && !again
+    by_two(rt, Lane::new(&index, pass), &a, &b)
 }
 
 #[test]
