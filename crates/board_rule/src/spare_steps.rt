@@ -8,9 +8,9 @@ ghost use Rattle.board_rule.specs.Steps.{Grew, current, HasSpare, kept_spare, la
 ghost use Rattle.board_rule.specs.Passes.{view, IsOf};
 
 use crate::board::{Board, Pass};
+use crate::kept_lag::KeptLag;
 use crate::leaf::Place;
 use crate::words::{PINS_WORD, VERSION_WORD};
-use meta_trie::Lag;
 use std::marker::Brand;
 
 /// Loads the spare table's pins, and answers how many there are. Where there is none, the table is
@@ -43,7 +43,7 @@ pub fn write(pass: &mut Pass, board: &Board, word: u32, value: u64)
 }
 
 /// Takes the lag record out of its place, once the spare table is cleared.
-pub fn move_lag_out(pass: &mut Pass, board: &Board) -> Lag
+pub fn move_lag_out(pass: &mut Pass, board: &Board) -> KeptLag
     requires of { IsOf board.now pass.old }
     requires spare { HasSpare (view pass.old) }
     requires home { (kept_spare (view pass.old)).lag ≡ lag_home (lag_of (kept_spare (view pass.old)).lag) }
@@ -67,7 +67,7 @@ pub fn move_lag_out(pass: &mut Pass, board: &Board) -> Lag
 }
 
 /// Fills the lag record's place, which is empty, with this record.
-pub fn move_lag_in(pass: &mut Pass, board: &Board, lag: Lag)
+pub fn move_lag_in(pass: &mut Pass, board: &Board, lag: KeptLag)
     requires of { IsOf board.now pass.old }
     requires spare { HasSpare (view pass.old) }
     requires away { (kept_spare (view pass.old)).lag ≡ lag_away }
