@@ -34,6 +34,9 @@ pub fn see(pass: &mut Pass, board: &Board, leaf: u32) -> u64
 /// Locks a leaf that was seen with this word, by a note of the version `searched`, and takes its
 /// content out. It is refused where the word has a holder, or is newer than `searched`, without a
 /// look; and where its exchange finds another word.
+///
+/// It is inlined wherever it is called, so that the content moves out of its place but once.
+#[inline(always)]
 pub fn lock<L: Ledger>(
     pass: &mut Pass,
     board: &Board,
