@@ -1,8 +1,8 @@
 -- Laws of what is served.
-use Rattle.std.proofs.Common.{◌≡◌, ℕ, ◌<◌, ◌++◌, Bool, true, cond, eqb, ltb, List, [], ◌∷◌, filter, length, Option, None, Some, Result, Ok, Err, refl, ap, ◌∙◌, subst, codes, arith}
+use Rattle.std.proofs.Common.{◌≡◌, ℕ, ◌<◌, ◌≤◌, ◌↔◌, ◌++◌, Bool, true, cond, eqb, ltb, List, [], ◌∷◌, filter, length, Option, None, Some, Result, Ok, Err, refl, sym, ap, ◌∙◌, subst, codes, arith}
 use Rattle.std.specs.List.{list_any}
 use Rattle.std.specs.Str.{bytes_eq}
-use Rattle.std.proofs.lemmas.Bool.{or_parts, cond-true, cond-false, cond_both, eqb-true, ne_eqb, lt-ltb}
+use Rattle.std.proofs.lemmas.Bool.{or_parts, cond-true, cond-false, cond_both, eqb-true, ne_eqb, lt-ltb, le-ltb}
 use Rattle.std.proofs.lemmas.List.{append_assoc}
 use Rattle.std.proofs.lemmas.List.Elements.{filter-append}
 use Rattle.line_reader.specs.Cut.{ended_lines, open_part, last_line}
@@ -123,6 +123,19 @@ pub request_none : (line : List ℕ) → request line ≡ Ok None → line ≡ [
 request_none line =
     cond_both (eqb (length line) 0) _ _ (OnlyEmpty line) (λ none e. empty_line line (eqb-true (length line) 0 none))
     (λ _. cond_both (ltb LONGEST_LINE (length line)) _ _ (OnlyEmpty line) (λ _. some_only line (Err (Fault Line)) tt) (λ _. some_only line (asked (words_of line)) (asked_some (words_of line))))
+
+-- any other line asks for what its words say
+request_some : (line : List ℕ) → 0 < length line → length line ≤ LONGEST_LINE → request line ≡ asked (words_of line)
+request_some line some short =
+    cond-false (eqb (length line) 0) (Ok None) _ (ne_eqb (length line) 0 (λ e. absurd (omega (arith, e, some))))
+    ∙ cond-false (ltb LONGEST_LINE (length line)) (Err (Fault Line)) (asked (words_of line)) (le-ltb LONGEST_LINE (length line) short)
+
+pub answers_line : (line : List ℕ) (words : List (List ℕ)) (result : Asked) → 0 < length line → length line ≤ LONGEST_LINE → words_of line ≡ words → Answers result (asked words) → Answers result (request line)
+answers_line line words result some short cut answers = subst (Answers result) (sym (request_some line some short ∙ ap asked cut)) answers
+
+pub never_nothing : (line : List ℕ) (words : List (List ℕ)) (result : Asked) → 0 < length line → Answers result (asked words) → (result ≡ Ok None) ↔ (line ≡ [])
+never_nothing line words result some answers =
+    (λ e. absurd (answered_some result words answers e), λ e. absurd (omega (arith, some, ap length e)))
 
 -- a line that is too long is at fault for that
 pub request_long : (line : List ℕ) → LONGEST_LINE < length line → request line ≡ Err (Fault Line)

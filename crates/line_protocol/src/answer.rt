@@ -1,4 +1,5 @@
 //! The lines of answers.
+ghost use Rattle.std.specs.Prelude.{◌≡◌, IfSome};
 ghost use Rattle.line_protocol.specs.ReplyLine.{AppendsAll};
 ghost use Rattle.line_protocol.specs.Texts.{text, again_text, full_text, fault_text, pair_line};
 
@@ -34,7 +35,22 @@ pub enum Answer<'a> {
     NoMemory,
 }
 
+/// The line of an answer that has no number and no bytes of its own.
+#[inline(always)]
+pub fn whole_line(answer: &Answer<'_>) -> Option<&'static [u8]>
+    ensures { IfSome result (λ line. line.now ≡ text answer.now) }
+{
+    match answer {
+        Answer::New => Some(b"NEW\n"),
+        Answer::Set => Some(b"SET\n"),
+        Answer::Absent => Some(b"NONE\n"),
+        Answer::Gone => Some(b"GONE\n"),
+        _ => None,
+    }
+}
+
 /// Appends the line of an answer, or nothing where there is no memory for it.
+#[inline(always)]
 pub fn reply_text(out: &mut Vec<u8>, answer: &Answer<'_>) -> Result<(), AllocError>
     ensures { AppendsAll result out.old.items out.new.items (text answer.now) }
 {
@@ -60,6 +76,7 @@ pub fn pair_text(out: &mut Vec<u8>, key: &[u8], value: &[u8]) -> Result<(), Allo
     append_pair(out, key, value)
 }
 
+#[inline(never)]
 fn fault_reply(out: &mut Vec<u8>, fault: Fault) -> Result<(), AllocError>
     ensures { AppendsAll result out.old.items out.new.items (fault_text fault) }
 {
@@ -73,6 +90,7 @@ fn fault_reply(out: &mut Vec<u8>, fault: Fault) -> Result<(), AllocError>
     }
 }
 
+#[inline(never)]
 fn full_reply(out: &mut Vec<u8>, full: Full) -> Result<(), AllocError>
     ensures { AppendsAll result out.old.items out.new.items (full_text full) }
 {
@@ -84,6 +102,7 @@ fn full_reply(out: &mut Vec<u8>, full: Full) -> Result<(), AllocError>
     }
 }
 
+#[inline(never)]
 fn again_reply(out: &mut Vec<u8>, again: Again) -> Result<(), AllocError>
     ensures { AppendsAll result out.old.items out.new.items (again_text again) }
 {

@@ -1,7 +1,7 @@
 //! Reading and writing escapes.
 //!
 //! They are those of percent-encoding (RFC 3986, section 2.1), with a set of the protocol's own.
-ghost use Rattle.std.specs.Prelude.{◌≡◌, ◌<◌, ◌≤◌, ◌++◌, take, length, IfOk, MatchOption, OnOk, OnErr};
+ghost use Rattle.std.specs.Prelude.{◌≡◌, ◌++◌, take, length, IfOk, OnOk, OnErr};
 ghost use Rattle.std.specs.List.{list_all};
 ghost use Rattle.std.specs.Cow.{cow_slice_items};
 ghost use Rattle.line_protocol.specs.Escape.{escape, is_plain, unescape as unescaped};
@@ -15,6 +15,7 @@ use std::borrow::CowSlice;
 const CUTS: AsciiSet = ascii_set!(CONTROLS.add(b' ').add(b'%').add(b'*'));
 
 /// The bytes that a word stands for. A word without `%` is lent as it is, and no memory is taken.
+#[inline(always)]
 pub(crate) fn unescape<'a>(
     alloc: Global,
     word: &'a [u8],
@@ -22,29 +23,21 @@ pub(crate) fn unescape<'a>(
     ensures { IfOk result (λ bytes. cow_slice_items bytes ≡ unescaped word.now) }
 {
     if has_byte(word, b'%') {
-        let mut bytes = Vec::with_capacity(alloc, word.len())?;
-        percent_decode(word).append_to(&mut bytes)?;
-        Ok(CowSlice::Owned(bytes))
+        Ok(CowSlice::Owned(unescape_copy(alloc, word)?))
     } else {
         Ok(CowSlice::Borrowed(word))
     }
 }
 
-/// Writes the bytes that a word stands for to the front of a buffer. How many they are, or none where
-/// the buffer has no room for all of them.
-pub(crate) fn unescape_into(buffer: &mut [u8], word: &[u8]) -> Option<usize>
-    ensures { MatchOption result (length buffer.old < length (unescaped word.now))
-        (λ n. (n ≤ length buffer.new) × (take n buffer.new ≡ unescaped word.now)) }
+/// The same in memory of its own. It stays a call, so that a word without escapes is read with few steps.
+#[cold]
+#[inline(never)]
+fn unescape_copy(alloc: Global, word: &[u8]) -> Result<Vec<u8>, AllocError>
+    ensures { IfOk result (λ bytes. bytes.items ≡ unescaped word.now) }
 {
-    let mut length = 0;
-    for byte in percent_decode(word) {
-        if length == buffer.len() {
-            return None;
-        }
-        buffer[length] = byte;
-        length += 1;
-    }
-    Some(length)
+    let mut bytes = Vec::with_capacity(alloc, word.len())?;
+    percent_decode(word).append_to(&mut bytes)?;
+    Ok(bytes)
 }
 
 /// Appends the word that stands for these bytes. After an `Err` some of it may have been appended.

@@ -1,13 +1,12 @@
 //! The parts of a request.
 ghost use Rattle.std.specs.Prelude.{◌≡◌, ◌≤◌, IfOk};
 ghost use Rattle.key_bytes.specs.Lengths.{IsKey};
-ghost use Rattle.line_protocol.specs.Parts.{Answers, as_key, key_of, value_of, end_of, limit_of};
+ghost use Rattle.line_protocol.specs.Parts.{Answers, key_of, value_of, end_of, limit_of};
 ghost use Rattle.line_protocol.specs.Requests.{IsEnd, IsValue};
 
-use crate::escape::{unescape, unescape_into};
-use crate::scan::has_byte;
-use crate::{Fault, RequestFault, Value};
-use key_bytes::{Bound, Key, KeyFault, LONGEST_KEY, LONGEST_VALUE};
+use crate::escape::unescape;
+use crate::{Fault, RequestFault, RequestKey, Value};
+use key_bytes::{Bound, LONGEST_KEY, LONGEST_VALUE};
 use std::alloc::Global;
 
 /// The greatest limit that a scan may have, in pairs.
@@ -16,46 +15,22 @@ pub const MOST_SCANNED: u32 = 1_000_000;
 /// How many digits a limit may have.
 const LIMIT_DIGITS: usize = 7;
 
-/// The key that a word stands for. Only the key itself takes memory.
-pub(crate) fn read_key(alloc: Global, word: &[u8]) -> Result<Key, RequestFault>
+/// The key that a word stands for. Only one with escapes takes memory.
+#[inline(always)]
+pub(crate) fn read_key(alloc: Global, word: &[u8]) -> Result<RequestKey<'_>, RequestFault>
     ensures answers { Answers result (key_of word.now) }
     ensures key { IfOk result IsKey }
 {
-    if has_byte(word, b'%') {
-        escaped_key(alloc, word)
-    } else {
-        copied_key(alloc, word)
+    let bytes = unescape(alloc, word)?;
+    let length = bytes.as_slice().len();
+    if length == 0 || length > LONGEST_KEY {
+        return Err(RequestFault::Fault(Fault::Key));
     }
-}
-
-/// The key of a word with escapes, which are read into a buffer that has room for the longest key. It
-/// stays a call, so that a key without escapes is made with few moves.
-#[inline(never)]
-fn escaped_key(alloc: Global, word: &[u8]) -> Result<Key, RequestFault>
-    ensures answers { Answers result (key_of word.now) }
-    ensures key { IfOk result IsKey }
-{
-    let mut buffer = [0; LONGEST_KEY];
-    match unescape_into(&mut buffer, word) {
-        None => Err(RequestFault::Fault(Fault::Key)),
-        Some(length) => copied_key(alloc, &buffer[..length]),
-    }
-}
-
-/// The key of these bytes.
-fn copied_key(alloc: Global, bytes: &[u8]) -> Result<Key, RequestFault>
-    ensures answers { Answers result (as_key bytes.now) }
-    ensures key { IfOk result IsKey }
-{
-    match Key::new(alloc, bytes) {
-        Ok(key) => Ok(key),
-        Err(KeyFault::Empty) => Err(RequestFault::Fault(Fault::Key)),
-        Err(KeyFault::TooLong(_)) => Err(RequestFault::Fault(Fault::Key)),
-        Err(KeyFault::NoMemory) => Err(RequestFault::NoMemory),
-    }
+    Ok(RequestKey::of(bytes))
 }
 
 /// The value that a word stands for. Only one with escapes takes memory.
+#[inline(always)]
 pub(crate) fn read_value(alloc: Global, word: &[u8]) -> Result<Value<'_>, RequestFault>
     ensures answers { Answers result (value_of word.now) }
     ensures value { IfOk result IsValue }
@@ -76,7 +51,7 @@ pub(crate) fn read_end(alloc: Global, word: &[u8], bare: Bound) -> Result<Bound,
         return Ok(bare);
     }
     let key = read_key(alloc, word)?;
-    Ok(Bound::At(key))
+    Ok(Bound::At(key.copy(alloc)?))
 }
 
 /// The limit of a scan.

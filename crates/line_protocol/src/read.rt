@@ -5,7 +5,9 @@ ghost use Rattle.line_protocol.specs.Parts.{Answers};
 ghost use Rattle.line_protocol.specs.Requests.{AsksRequest, request, asked, put, get, del, scan, quit};
 
 use crate::parts::{read_end, read_key, read_limit, read_value};
-use crate::words::{first_word, one_word, three_words, two_words};
+use crate::words::{
+    behind_del, behind_get, behind_put, first_word, one_word, three_words, two_words,
+};
 use crate::{Fault, Request, RequestFault, ScanEnd};
 use key_bytes::Bound;
 use line_reader::LONGEST_LINE;
@@ -14,6 +16,7 @@ use std::alloc::Global;
 /// The request of a line, or none for the empty one. A line with several faults has the first of
 /// them in the order of their numbers, and of two faulty keys the first. What is copied are keys and
 /// the value where it has escapes, once each; each end of a scan takes an allocation besides.
+#[inline(always)]
 pub fn read_request(alloc: Global, line: &[u8]) -> Result<Option<Request<'_>>, RequestFault>
     requires { length line.now ≤ LONGEST_LINE }
     ensures answers { Answers result (request line.now) }
@@ -23,10 +26,20 @@ pub fn read_request(alloc: Global, line: &[u8]) -> Result<Option<Request<'_>>, R
     if line.is_empty() {
         return Ok(None);
     }
-    read_words(alloc, line)
+    // Nearly all lines ask for one key.
+    if let Some(rest) = behind_get(line) {
+        read_get(alloc, Some(rest))
+    } else if let Some(rest) = behind_put(line) {
+        read_put(alloc, Some(rest))
+    } else if let Some(rest) = behind_del(line) {
+        read_del(alloc, Some(rest))
+    } else {
+        read_words(alloc, line)
+    }
 }
 
 /// The request of the words of a line.
+#[inline(never)]
 fn read_words(alloc: Global, line: &[u8]) -> Result<Option<Request<'_>>, RequestFault>
     ensures answers { Answers result (asked (words_of line.now)) }
     ensures asks { IfOk result AsksRequest }
@@ -47,6 +60,7 @@ fn read_words(alloc: Global, line: &[u8]) -> Result<Option<Request<'_>>, Request
     }
 }
 
+#[inline(always)]
 fn read_put(alloc: Global, rest: Option<&[u8]>) -> Result<Option<Request<'_>>, RequestFault>
     ensures answers { Answers result (put (words_after (option_copied rest.entry))) }
     ensures asks { IfOk result AsksRequest }
@@ -61,6 +75,7 @@ fn read_put(alloc: Global, rest: Option<&[u8]>) -> Result<Option<Request<'_>>, R
     }
 }
 
+#[inline(always)]
 fn read_get(alloc: Global, rest: Option<&[u8]>) -> Result<Option<Request<'_>>, RequestFault>
     ensures answers { Answers result (get (words_after (option_copied rest.entry))) }
     ensures asks { IfOk result AsksRequest }
@@ -74,6 +89,7 @@ fn read_get(alloc: Global, rest: Option<&[u8]>) -> Result<Option<Request<'_>>, R
     }
 }
 
+#[inline(always)]
 fn read_del(alloc: Global, rest: Option<&[u8]>) -> Result<Option<Request<'_>>, RequestFault>
     ensures answers { Answers result (del (words_after (option_copied rest.entry))) }
     ensures asks { IfOk result AsksRequest }

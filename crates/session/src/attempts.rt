@@ -36,6 +36,7 @@ macro_rules! patiently {
 }
 
 /// Puts, again while patience lasts.
+#[inline(always)]
 pub(crate) fn put_patiently<O: Ordered, P: Patience>(
     store: &mut O,
     patience: &mut P,
@@ -62,6 +63,7 @@ pub(crate) fn put_patiently<O: Ordered, P: Patience>(
 }
 
 /// Leaves the value at the key in `value`, again while patience lasts.
+#[inline(always)]
 pub(crate) fn get_patiently<O: Ordered, P: Patience>(
     store: &mut O,
     patience: &mut P,
@@ -84,6 +86,7 @@ pub(crate) fn get_patiently<O: Ordered, P: Patience>(
 }
 
 /// Takes the key out, again while patience lasts.
+#[inline(always)]
 pub(crate) fn del_patiently<O: Ordered, P: Patience>(
     store: &mut O,
     patience: &mut P,
@@ -105,6 +108,7 @@ pub(crate) fn del_patiently<O: Ordered, P: Patience>(
 }
 
 /// Leaves the first pairs between two ends in `page`, again while patience lasts.
+#[inline(always)]
 pub(crate) fn part_patiently<O: Ordered, P: Patience>(
     store: &mut O,
     patience: &mut P,

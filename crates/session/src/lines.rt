@@ -24,14 +24,17 @@ use outside::{Sink, Stop};
 use std::alloc::Global;
 
 // Whether the session ends behind it.
+#[inline(always)]
 fn is_last(request: &Request) -> bool
     ensures { result ≡ is_quit (Ok (Some request.now)) }
 {
     matches!(request, Request::Quit)
 }
 
-/// Serves a request, and writes its lines.
+/// Serves a request, and writes its lines. Without memory for its key it asks nothing.
+#[inline(always)]
 pub(crate) fn serve_request<O: Ordered, K: Sink, P: Patience>(
+    alloc: Global,
     store: &mut O,
     sink: &mut K,
     patience: &mut P,
@@ -40,7 +43,7 @@ pub(crate) fn serve_request<O: Ordered, K: Sink, P: Patience>(
 ) -> Result<(), Stop>
     requires { IsRequest request }
     ensures served { Serves O.stands O.lane O.sole O.fits O.refusals O.last (P.limit patience.old) store.old store.new
-        (λ asked. asked ≡ Ok (Some request.entry) ∷ []) (WritesPieces result (K.written sink.old) (K.written sink.new)) }
+        (Reaches result (Ok (Some request.entry) ∷ [])) (WritesPieces result (K.written sink.old) (K.written sink.new)) }
     ensures kept { (O.lane store.new ≡ O.lane store.old) × (O.sole store.new ≡ O.sole store.old)
         × (O.origin store.new ≡ O.origin store.old) × (P.limit patience.new ≡ P.limit patience.old) }
     ensures forks { O.room store.new ≡ O.room store.old }
@@ -48,9 +51,18 @@ pub(crate) fn serve_request<O: Ordered, K: Sink, P: Patience>(
     ensures cause { FaultsCounted (K.faults sink.old) (K.faults sink.new) result }
 {
     match request {
-        Request::Put(key, value) => serve_put(store, sink, patience, buffers, &key, value.get()),
-        Request::Get(key) => serve_get(store, sink, patience, buffers, &key),
-        Request::Del(key) => serve_del(store, sink, patience, buffers, &key),
+        Request::Put(key, value) => match key.copy(alloc) {
+            Ok(key) => serve_put(store, sink, patience, buffers, &key, value.get()),
+            Err(_) => Err(Stop::NoMemory),
+        },
+        Request::Get(key) => match key.copy(alloc) {
+            Ok(key) => serve_get(store, sink, patience, buffers, &key),
+            Err(_) => Err(Stop::NoMemory),
+        },
+        Request::Del(key) => match key.copy(alloc) {
+            Ok(key) => serve_del(store, sink, patience, buffers, &key),
+            Err(_) => Err(Stop::NoMemory),
+        },
         Request::Scan(from, to, most) => {
             let from = from.into_bound();
             serve_scan(store, sink, patience, buffers, from, to.get(), most)
@@ -60,6 +72,8 @@ pub(crate) fn serve_request<O: Ordered, K: Sink, P: Patience>(
 }
 
 // Answers a line that has a fault, behind which the session goes on.
+#[cold]
+#[inline(never)]
 fn reply_fault<K: Sink>(sink: &mut K, out: &mut Vec<u8>, fault: Fault) -> Result<bool, Stop>
     ensures gained { Gained result (K.written sink.old) (K.written sink.new) (text (Answer.Fault fault)) }
     ensures quit { IfOk result (λ quit. quit ≡ false) }
@@ -72,6 +86,7 @@ fn reply_fault<K: Sink>(sink: &mut K, out: &mut Vec<u8>, fault: Fault) -> Result
 }
 
 /// Serves a line, and says whether it was the last one.
+#[inline(always)]
 pub(crate) fn serve_line<O: Ordered, K: Sink, P: Patience>(
     alloc: Global,
     store: &mut O,
@@ -94,7 +109,7 @@ pub(crate) fn serve_line<O: Ordered, K: Sink, P: Patience>(
         Ok(None) => Ok(false),
         Ok(Some(request)) => {
             let last = is_last(&request);
-            match serve_request(store, sink, patience, buffers, request) {
+            match serve_request(alloc, store, sink, patience, buffers, request) {
                 Ok(()) => Ok(last),
                 Err(stop) => Err(stop),
             }
@@ -105,6 +120,8 @@ pub(crate) fn serve_line<O: Ordered, K: Sink, P: Patience>(
 }
 
 /// Serves a line that was told, if one was, and says whether it was the last one.
+#[cold]
+#[inline(never)]
 pub(crate) fn serve_told<O: Ordered, K: Sink, P: Patience>(
     alloc: Global,
     store: &mut O,
@@ -136,6 +153,7 @@ pub(crate) fn serve_told<O: Ordered, K: Sink, P: Patience>(
 
 // Serves the line that a piece begins with, or has the reader take the piece where no line ends in it. Says how
 // many bytes of the piece that took, and whether the line was the last one.
+#[inline(always)]
 fn serve_next<O: Ordered, K: Sink, P: Patience>(
     alloc: Global,
     store: &mut O,

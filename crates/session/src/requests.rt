@@ -16,6 +16,7 @@ use map_model::Ordered;
 use outside::{Sink, Stop};
 
 /// Serves a put, and writes its line.
+#[inline(always)]
 pub(crate) fn serve_put<O: Ordered, K: Sink, P: Patience>(
     store: &mut O,
     sink: &mut K,
@@ -42,6 +43,7 @@ pub(crate) fn serve_put<O: Ordered, K: Sink, P: Patience>(
 }
 
 /// Serves a get, and writes its line.
+#[inline(always)]
 pub(crate) fn serve_get<O: Ordered, K: Sink, P: Patience>(
     store: &mut O,
     sink: &mut K,
@@ -70,6 +72,7 @@ pub(crate) fn serve_get<O: Ordered, K: Sink, P: Patience>(
 }
 
 /// Serves a del, and writes its line.
+#[inline(always)]
 pub(crate) fn serve_del<O: Ordered, K: Sink, P: Patience>(
     store: &mut O,
     sink: &mut K,

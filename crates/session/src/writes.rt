@@ -5,12 +5,13 @@ ghost use Rattle.outside.specs.Causes.{FaultsCounted};
 ghost use Rattle.session.specs.Replies.{refusal_line, pair_lines};
 ghost use Rattle.session.specs.Writes.{Gained};
 
-use line_protocol::{Answer, pair_text, reply_text};
+use line_protocol::{Answer, pair_text, reply_text, whole_line};
 use map_model::{Page, Refusal};
 use outside::{Sink, Stop};
 use std::alloc::AllocError;
 
 /// Writes all bytes, by as many writes as the sink takes them in, or some first ones where it stops.
+#[inline]
 pub fn write_all<K: Sink>(sink: &mut K, bytes: &[u8]) -> Result<(), Stop>
     ensures gained { Gained result (K.written sink.old) (K.written sink.new) bytes.now }
     ensures cause { FaultsCounted (K.faults sink.old) (K.faults sink.new) result }
@@ -25,7 +26,8 @@ pub fn write_all<K: Sink>(sink: &mut K, bytes: &[u8]) -> Result<(), Stop>
     Ok(())
 }
 
-/// Writes the line of an answer, which `out` holds meanwhile.
+/// Writes the line of an answer, which `out` holds meanwhile unless it is known whole.
+#[inline(always)]
 pub(crate) fn reply<K: Sink>(
     sink: &mut K,
     out: &mut Vec<u8>,
@@ -34,6 +36,9 @@ pub(crate) fn reply<K: Sink>(
     ensures gained { Gained result (K.written sink.old) (K.written sink.new) (text answer.now) }
     ensures cause { FaultsCounted (K.faults sink.old) (K.faults sink.new) result }
 {
+    if let Some(line) = whole_line(answer) {
+        return write_all(sink, line);
+    }
     out.clear();
     match reply_text(out, answer) {
         Ok(()) => write_all(sink, out),
@@ -42,6 +47,8 @@ pub(crate) fn reply<K: Sink>(
 }
 
 /// Writes the line of a refusal.
+#[cold]
+#[inline(never)]
 pub(crate) fn refuse<K: Sink>(sink: &mut K, out: &mut Vec<u8>, refusal: Refusal) -> Result<(), Stop>
     ensures gained { Gained result (K.written sink.old) (K.written sink.new) (refusal_line refusal) }
     ensures cause { FaultsCounted (K.faults sink.old) (K.faults sink.new) result }

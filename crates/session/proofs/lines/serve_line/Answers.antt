@@ -1,5 +1,5 @@
-use Rattle.std.proofs.Common.{IfOk, subst, ◌≡◌, [], Err, refl, sym, ap, ◌∙◌}
-use Rattle.std.proofs.lemmas.List.{append-nil}
+use Rattle.std.proofs.Common.{IfOk, subst, ◌≡◌, Err, refl, sym, ap, ◌∙◌}
+use mathlib.Core.List.{IsPrefix}
 use Rattle.line_protocol.specs.Requests.{Asked}
 use Rattle.line_protocol.specs.declared.fault.RequestFault.TheVariants as faults
 use Rattle.outside.proofs.Pieces.{wrote_none}
@@ -33,13 +33,13 @@ returns-in-Ok-clause-quit g c =
 pub returns-in-Err-clause-served : goal.returns-in-Err-clause-served
 returns-in-Err-clause-served g c =
     let is = rw c.in-Ok-Some.field-0-is at c.in-Ok-Some.ensures.answers in
-    transcribes_told _ _ _ _ _ _ _ _ _ _ _ _ _ _ (λ xs p. ([], append-nil xs ∙ (p ∙ sym (ap if_any is)))) (λ xs p. p) c.in-Err.ensures.served
+    transcribes_told _ _ _ _ _ _ _ _ _ _ _ _ _ _ (λ xs p. subst (IsPrefix xs) (sym (ap if_any is)) p) (λ xs p. p) c.in-Err.ensures.served
 
 pub returns-in-Err-Fault-clause-served : goal.returns-in-Err-Fault-clause-served
 returns-in-Err-Fault-clause-served g c =
     let is = rw c.in-Err-Fault.field-0-is at c.in-Err-Fault.ensures.answers in
     transcribes_told _ _ _ _ _ _ _ _ _ _ _ _ _ _ (λ xs p. reaches_all c.reply_fault.result _ xs (p ∙ sym (ap if_any is))) (λ xs p. p)
-    (line_told _ _ _ _ (Err (faults.Fault c.in-Err-Fault.fault)) _ _ _ _ _ _ _ (λ seen x told. told) (λ old history. g.met.O.Ordered.stands_legal _ old history) c.reply_fault.ensures.gained)
+    (line_told _ _ _ _ (Err (faults.Fault c.in-Err-Fault.fault)) _ _ _ _ _ _ _ (λ seen x told. told) (λ old history. g.met.O.Ordered.stands_legal _ old history) (rw c.in-Err-Fault.field-0-is at c.reply_fault.ensures.gained))
 
 pub returns-in-Err-Fault-clause-quit : goal.returns-in-Err-Fault-clause-quit
 returns-in-Err-Fault-clause-quit g c =
