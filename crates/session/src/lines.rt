@@ -14,7 +14,7 @@ ghost use Rattle.session.specs.Writes.{Gained, Reaches};
 
 use crate::buffers::Buffers;
 use crate::patience::Patience;
-use crate::requests::{serve_del, serve_get, serve_put};
+use crate::requests::{del_request, get_request, put_request};
 use crate::scans::serve_scan;
 use crate::writes::reply;
 use line_protocol::{Answer, Event, Fault, Lines, Request, RequestFault, read_request};
@@ -51,18 +51,11 @@ pub(crate) fn serve_request<O: Ordered, K: Sink, P: Patience>(
     ensures cause { FaultsCounted (K.faults sink.old) (K.faults sink.new) result }
 {
     match request {
-        Request::Put(key, value) => match key.copy(alloc) {
-            Ok(key) => serve_put(store, sink, patience, buffers, &key, value.get()),
-            Err(_) => Err(Stop::NoMemory),
-        },
-        Request::Get(key) => match key.copy(alloc) {
-            Ok(key) => serve_get(store, sink, patience, buffers, &key),
-            Err(_) => Err(Stop::NoMemory),
-        },
-        Request::Del(key) => match key.copy(alloc) {
-            Ok(key) => serve_del(store, sink, patience, buffers, &key),
-            Err(_) => Err(Stop::NoMemory),
-        },
+        Request::Put(key, value) => {
+            put_request(alloc, store, sink, patience, buffers, &key, value.get())
+        }
+        Request::Get(key) => get_request(alloc, store, sink, patience, buffers, &key),
+        Request::Del(key) => del_request(alloc, store, sink, patience, buffers, &key),
         Request::Scan(from, to, most) => {
             let from = from.into_bound();
             serve_scan(store, sink, patience, buffers, from, to.get(), most)

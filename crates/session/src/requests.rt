@@ -5,19 +5,21 @@ ghost use Rattle.map_model.specs.History.{Entry};
 ghost use Rattle.outside.specs.Causes.{FaultsCounted};
 ghost use Rattle.session.specs.Transcripts.{Serves};
 ghost use Rattle.session.specs.Turns.{WritesPieces};
+ghost use Rattle.session.specs.Writes.{Reaches};
 
 use crate::attempts::{del_patiently, get_patiently, put_patiently};
 use crate::buffers::Buffers;
 use crate::patience::Patience;
 use crate::writes::{refuse, reply};
 use key_bytes::{Key, LONGEST_VALUE};
-use line_protocol::Answer;
+use line_protocol::{Answer, RequestKey};
 use map_model::Ordered;
 use outside::{Sink, Stop};
+use std::alloc::Global;
 
 /// Serves a put, and writes its line.
 #[inline(always)]
-pub(crate) fn serve_put<O: Ordered, K: Sink, P: Patience>(
+fn serve_put<O: Ordered, K: Sink, P: Patience>(
     store: &mut O,
     sink: &mut K,
     patience: &mut P,
@@ -42,9 +44,36 @@ pub(crate) fn serve_put<O: Ordered, K: Sink, P: Patience>(
     }
 }
 
+/// The same with the key of a line, which is copied. Without memory for the copy it asks nothing.
+#[inline(always)]
+pub(crate) fn put_request<O: Ordered, K: Sink, P: Patience>(
+    alloc: Global,
+    store: &mut O,
+    sink: &mut K,
+    patience: &mut P,
+    buffers: &mut Buffers,
+    key: &RequestKey,
+    value: &[u8],
+) -> Result<(), Stop>
+    requires { length value.now ≤ LONGEST_VALUE }
+    ensures served { Serves O.stands O.lane O.sole O.fits O.refusals O.last (P.limit patience.old) store.old store.new
+        (Reaches result (Ok (Some (asks.Put key.now value.now)) ∷ []))
+        (WritesPieces result (K.written sink.old) (K.written sink.new)) }
+    ensures kept { (O.lane store.new ≡ O.lane store.old) × (O.sole store.new ≡ O.sole store.old)
+        × (O.origin store.new ≡ O.origin store.old) × (P.limit patience.new ≡ P.limit patience.old) }
+    ensures forks { O.room store.new ≡ O.room store.old }
+    ensures fits { (history : List Entry) → O.fits store.old history → O.fits store.new history }
+    ensures cause { FaultsCounted (K.faults sink.old) (K.faults sink.new) result }
+{
+    match key.copy(alloc) {
+        Ok(key) => serve_put(store, sink, patience, buffers, &key, value),
+        Err(_) => Err(Stop::NoMemory),
+    }
+}
+
 /// Serves a get, and writes its line.
 #[inline(always)]
-pub(crate) fn serve_get<O: Ordered, K: Sink, P: Patience>(
+fn serve_get<O: Ordered, K: Sink, P: Patience>(
     store: &mut O,
     sink: &mut K,
     patience: &mut P,
@@ -71,9 +100,34 @@ pub(crate) fn serve_get<O: Ordered, K: Sink, P: Patience>(
     }
 }
 
+/// The same with the key of a line, which is copied. Without memory for the copy it asks nothing.
+#[inline(always)]
+pub(crate) fn get_request<O: Ordered, K: Sink, P: Patience>(
+    alloc: Global,
+    store: &mut O,
+    sink: &mut K,
+    patience: &mut P,
+    buffers: &mut Buffers,
+    key: &RequestKey,
+) -> Result<(), Stop>
+    ensures served { Serves O.stands O.lane O.sole O.fits O.refusals O.last (P.limit patience.old) store.old store.new
+        (Reaches result (Ok (Some (asks.Get key.now)) ∷ []))
+        (WritesPieces result (K.written sink.old) (K.written sink.new)) }
+    ensures kept { (O.lane store.new ≡ O.lane store.old) × (O.sole store.new ≡ O.sole store.old)
+        × (O.origin store.new ≡ O.origin store.old) × (P.limit patience.new ≡ P.limit patience.old) }
+    ensures forks { O.room store.new ≡ O.room store.old }
+    ensures fits { (history : List Entry) → O.fits store.old history → O.fits store.new history }
+    ensures cause { FaultsCounted (K.faults sink.old) (K.faults sink.new) result }
+{
+    match key.copy(alloc) {
+        Ok(key) => serve_get(store, sink, patience, buffers, &key),
+        Err(_) => Err(Stop::NoMemory),
+    }
+}
+
 /// Serves a del, and writes its line.
 #[inline(always)]
-pub(crate) fn serve_del<O: Ordered, K: Sink, P: Patience>(
+fn serve_del<O: Ordered, K: Sink, P: Patience>(
     store: &mut O,
     sink: &mut K,
     patience: &mut P,
@@ -93,5 +147,30 @@ pub(crate) fn serve_del<O: Ordered, K: Sink, P: Patience>(
         Ok(true) => reply(sink, &mut buffers.reply, &Answer::Gone),
         Ok(false) => reply(sink, &mut buffers.reply, &Answer::Absent),
         Err(refusal) => refuse(sink, &mut buffers.reply, refusal),
+    }
+}
+
+/// The same with the key of a line, which is copied. Without memory for the copy it asks nothing.
+#[inline(always)]
+pub(crate) fn del_request<O: Ordered, K: Sink, P: Patience>(
+    alloc: Global,
+    store: &mut O,
+    sink: &mut K,
+    patience: &mut P,
+    buffers: &mut Buffers,
+    key: &RequestKey,
+) -> Result<(), Stop>
+    ensures served { Serves O.stands O.lane O.sole O.fits O.refusals O.last (P.limit patience.old) store.old store.new
+        (Reaches result (Ok (Some (asks.Del key.now)) ∷ []))
+        (WritesPieces result (K.written sink.old) (K.written sink.new)) }
+    ensures kept { (O.lane store.new ≡ O.lane store.old) × (O.sole store.new ≡ O.sole store.old)
+        × (O.origin store.new ≡ O.origin store.old) × (P.limit patience.new ≡ P.limit patience.old) }
+    ensures forks { O.room store.new ≡ O.room store.old }
+    ensures fits { (history : List Entry) → O.fits store.old history → O.fits store.new history }
+    ensures cause { FaultsCounted (K.faults sink.old) (K.faults sink.new) result }
+{
+    match key.copy(alloc) {
+        Ok(key) => serve_del(store, sink, patience, buffers, &key),
+        Err(_) => Err(Stop::NoMemory),
     }
 }
