@@ -1,10 +1,11 @@
 //! Keys, which are lists of 1 to `LONGEST_KEY` bytes, with their order, the ends of ranges of keys, and
-//! the hash of the bytes that a key begins with.
+//! the hash of the bytes that a key begins with; and copies of few bytes.
 #![tactic(auto)]
 
 mod bound;
 mod bytes;
 mod common;
+mod copies;
 mod fnv;
 mod key;
 mod limits;
@@ -12,6 +13,7 @@ mod limits;
 pub use bound::Bound;
 pub use bytes::Bytes;
 pub use common::{lcp, separator};
+pub use copies::copy_few;
 pub use fnv::{Fnv, prefix_hash};
 pub use key::{Key, KeyFault};
 pub use limits::{LONGEST_KEY, LONGEST_VALUE};

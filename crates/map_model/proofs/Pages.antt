@@ -1,6 +1,6 @@
 -- How the pairs of a page are cut out of its bytes.
-use Rattle.std.proofs.Common.{◌≡◌, ℕ, zero, suc, ◌-◌, ◌<◌, ◌≤◌, List, [], ◌∷◌, ◌++◌, refl, ap, ◌∙◌, arith, length, get_or, take, drop, slice_range, length-append, length-drop, append_assoc}
-use Rattle.std.proofs.lemmas.List.{take-append-le, drop-append-le, take_all}
+use Rattle.std.proofs.Common.{◌≡◌, ℕ, zero, suc, ◌+◌, ◌-◌, ◌<◌, ◌≤◌, List, [], ◌∷◌, ◌++◌, refl, sym, subst, ap, ◌∙◌, arith, length, get_or, take, drop, slice_range, length-append, length-drop, length-take, append_assoc}
+use Rattle.std.proofs.lemmas.List.{take-append-le, drop-append-le, take-append-drop, take_all, take_at}
 use Rattle.std.proofs.Math.Seq.{drop-append_seam}
 use Rattle.map_model.specs.Maps.{Pairs}
 use Rattle.map_model.specs.Pages.{cut, AreEnds, start_at}
@@ -76,3 +76,36 @@ pushed bytes key value ends are =
     ∙ (ap (λ (t : Pairs (List ℕ)). t ++ (slice_range all (length bytes) (length (bytes ++ key)), slice_range all (length (bytes ++ key)) (length all)) ∷ []) (ap (λ b. cut b 0 ends) (append_assoc bytes key value) ∙ cut-more bytes (key ++ value) 0 ends are)
     ∙ (ap (λ (k : List ℕ). cut bytes 0 ends ++ (k, slice_range all (length (bytes ++ key)) (length all)) ∷ []) (range_key bytes key value)
     ∙ ap (λ (v : List ℕ). cut bytes 0 ends ++ (key, v) ∷ []) (range_value bytes key value)))
+
+-- the pairs are those of the bytes that are used
+pub cut-used : (bytes : List ℕ) (from : ℕ) (ends : List (ℕ × ℕ)) (used : ℕ) → AreEnds from ends used → used ≤ length bytes → cut (take used bytes) from ends ≡ cut bytes from ends
+cut-used bytes from ends used are le =
+    let count : length (take used bytes) ≡ used = omega (arith, length-take used bytes) in
+    let of_front = subst (λ (n : ℕ). AreEnds from ends n) (sym count) are in
+    sym (cut-more (take used bytes) (drop used bytes) from ends of_front) ∙ ap (λ (b : List ℕ). cut b from ends) (take-append-drop used bytes)
+
+-- where the used bytes stay, so do the pairs
+pub cut-same : (bytes others : List ℕ) (ends : List (ℕ × ℕ)) (used : ℕ) → AreEnds 0 ends used → used ≤ length bytes → used ≤ length others → take used others ≡ take used bytes → cut others 0 ends ≡ cut bytes 0 ends
+cut-same bytes others ends used are le le' same = sym (cut-used others 0 ends used are le') ∙ (ap (λ (b : List ℕ). cut b 0 ends) same ∙ cut-used bytes 0 ends used are le)
+
+-- a key and a value that were written behind the used bytes
+pub pushed-over : (bytes one two key value : List ℕ) (ends : List (ℕ × ℕ)) (used : ℕ) → AreEnds 0 ends used → used ≤ length bytes
+    → one ≡ take used bytes ++ (key ++ drop (used + length key) bytes)
+    → two ≡ take (used + length key) one ++ (value ++ drop (used + length key + length value) one)
+    → cut two 0 (ends ++ (used + length key, used + length key + length value) ∷ []) ≡ cut bytes 0 ends ++ (key, value) ∷ []
+pushed-over bytes one two key value ends used are le first second =
+    let front = take used bytes in
+    let count : length front ≡ used = omega (arith, length-take used bytes) in
+    let of_front = subst (λ (n : ℕ). AreEnds 0 ends n) (sym count) are in
+    let middle : length (front ++ key) ≡ used + length key = length-append front key ∙ ap (λ n. n + length key) count in
+    let end : length ((front ++ key) ++ value) ≡ used + length key + length value = length-append (front ++ key) value ∙ ap (λ n. n + length value) middle in
+    let rest = drop (used + length key + length value) one in
+    let head : take (used + length key) one ≡ front ++ key = ap (take (used + length key)) (first ∙ sym (append_assoc front key (drop (used + length key) bytes))) ∙ take_at (front ++ key) (drop (used + length key) bytes) (used + length key) middle in
+    let all : two ≡ ((front ++ key) ++ value) ++ rest = second ∙ (ap (λ (b : List ℕ). b ++ (value ++ rest)) head ∙ sym (append_assoc (front ++ key) value rest)) in
+    let more = ends ++ (length (front ++ key), length ((front ++ key) ++ value)) ∷ [] in
+    let are_more = ends-push 0 ends (length front) (length (front ++ key)) (length ((front ++ key) ++ value)) of_front (omega (arith, length-append front key)) (omega (arith, length-append (front ++ key) value)) in
+    ap (λ (n : ℕ). cut two 0 (ends ++ (n, used + length key + length value) ∷ [])) (sym middle)
+    ∙ (ap (λ (n : ℕ). cut two 0 (ends ++ (length (front ++ key), n) ∷ [])) (sym end)
+    ∙ (ap (λ (b : List ℕ). cut b 0 more) all
+    ∙ (cut-more ((front ++ key) ++ value) rest 0 more are_more
+    ∙ (pushed front key value ends of_front ∙ ap (λ (t : Pairs (List ℕ)). t ++ (key, value) ∷ []) (cut-used bytes 0 ends used are le)))))

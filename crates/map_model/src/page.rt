@@ -1,33 +1,38 @@
 //! The pairs of a part.
-ghost use Rattle.std.specs.Prelude.{◌≡◌, ◌≤◌, ◌<◌, ◌+◌, ◌⊎◌, [], ◌∷◌, ◌++◌, length, slice_index_or, slice_range, OnOk, OnErr};
+ghost use Rattle.std.specs.Prelude.{◌≡◌, ℕ, ◌≤◌, ◌<◌, ◌+◌, ◌-◌, ◌⊎◌, [], ◌∷◌, ◌++◌, length, take, drop, slice_index_or, slice_range, OnOk, OnErr};
 ghost use Rattle.map_model.specs.Pages.{HasNoLessRoom, cut, AreEnds, start_at};
 
+use key_bytes::copy_few;
 use std::alloc::{AllocError, Global};
 use std::marker::Model;
 
 /// Pairs of byte strings, with room for more.
 ///
-/// The bytes lie one behind another in one vector, so that a pair takes no allocation of its own.
+/// The bytes lie one behind another in one vector, so that a pair takes no allocation of its own. The room
+/// behind them is written once, when it is made, so that a pair is copied over bytes that are there.
 #[derive(Drop)]
 pub struct Page {
+    // The bytes of the pairs, and behind them the room for more.
     bytes: Vec<u8>,
+    // How many of the bytes are those of pairs.
+    used: usize,
     // The end of each key, and that of its value.
     ends: Vec<(usize, usize)>,
 }
 
 impl Model for Page {
     ghost use Rattle.map_model.specs.Pages.{Paged, cut, AreEnds};
-    ghost use Rattle.std.specs.Prelude.{◌-◌, length, vec_capacity, vec_len};
+    ghost use Rattle.std.specs.Prelude.{◌-◌, ◌≤◌, length, vec_capacity, vec_len};
 
     ghost Value = { Paged };
 
     ghost view = { λ p. record {
       pairs = cut p.bytes.items 0 p.ends.items;
       spare_pairs = vec_capacity p.ends - vec_len p.ends;
-      spare_bytes = vec_capacity p.bytes - vec_len p.bytes;
+      spare_bytes = length p.bytes.items - p.used;
     } };
 
-    ghost invariant = { λ p. AreEnds 0 p.ends.items (length p.bytes.items) };
+    ghost invariant = { λ p. AreEnds 0 p.ends.items p.used × (p.used ≤ length p.bytes.items) };
 }
 
 impl Page {
@@ -37,6 +42,7 @@ impl Page {
     {
         Page {
             bytes: Vec::new(alloc),
+            used: 0,
             ends: Vec::new(alloc),
         }
     }
@@ -74,7 +80,7 @@ impl Page {
         ensures room { HasNoLessRoom self.old self.new }
     {
         self.ends.reserve(pairs)?;
-        self.bytes.reserve(bytes)
+        make_room(&mut self.bytes, self.used, bytes)
     }
 
     /// Adds a pair behind the others. It takes no memory where there is room for it.
@@ -88,11 +94,13 @@ impl Page {
         ensures room { OnErr result (HasNoLessRoom self.old self.new) }
     {
         self.ends.reserve(1)?;
-        self.bytes.reserve(key.len() + value.len())?;
-        self.bytes.extend_from_slice(key)?;
-        let middle = self.bytes.len();
-        self.bytes.extend_from_slice(value)?;
-        self.ends.push_reserved((middle, self.bytes.len()));
+        make_room(&mut self.bytes, self.used, key.len() + value.len())?;
+        let middle = self.used + key.len();
+        let end = middle + value.len();
+        put_bytes(&mut self.bytes, self.used, key);
+        put_bytes(&mut self.bytes, middle, value);
+        self.ends.push_reserved((middle, end));
+        self.used = end;
         Ok(())
     }
 
@@ -101,15 +109,52 @@ impl Page {
         ensures none { self.new.pairs ≡ [] }
         ensures room { HasNoLessRoom self.old self.new }
     {
-        self.bytes.clear();
+        self.used = 0;
         self.ends.clear();
     }
+}
+
+// Makes room for so many bytes behind those that are used, unless there is.
+fn make_room(bytes: &mut Vec<u8>, used: usize, more: usize) -> Result<(), AllocError>
+    requires { used ≤ length bytes.old.items }
+    ensures front { take used bytes.new.items ≡ take used bytes.old.items }
+    ensures longer { length bytes.old.items ≤ length bytes.new.items }
+    ensures room { OnOk result (more ≤ length bytes.new.items - used) }
+    ensures taken { OnErr result (length bytes.old.items - used < more) }
+{
+    if more <= bytes.len() - used {
+        return Ok(());
+    }
+    lengthen(bytes, used, more)
+}
+
+// The part of `make_room` that takes memory, apart so that the test is inlined.
+#[cold]
+#[inline(never)]
+fn lengthen(bytes: &mut Vec<u8>, used: usize, more: usize) -> Result<(), AllocError>
+    requires in_range { used ≤ length bytes.old.items }
+    requires short { length bytes.old.items - used < more }
+    ensures front { take used bytes.new.items ≡ take used bytes.old.items }
+    ensures longer { length bytes.old.items ≤ length bytes.new.items }
+    ensures room { OnOk result (more ≤ length bytes.new.items - used) }
+{
+    bytes.reserve(more - (bytes.len() - used))?;
+    bytes.resize(bytes.capacity(), 0)
+}
+
+// Writes bytes over those at a place.
+fn put_bytes(bytes: &mut Vec<u8>, at: usize, part: &[u8])
+    requires { at + length part.now ≤ length bytes.old.items }
+    ensures bytes { bytes.new.items ≡ take at bytes.old.items ++ (part.now ++ drop (at + length part.now) bytes.old.items) }
+    ensures len { length bytes.new.items ≡ length bytes.old.items }
+{
+    copy_few(&mut bytes[at..at + part.len()], part);
 }
 
 // The key and the value of a pair.
 fn pair_at<'a>(bytes: &'a [u8], ends: &[(usize, usize)], i: usize) -> (&'a [u8], &'a [u8])
     requires in_range { i < length ends.now }
-    requires ends { AreEnds 0 ends.now (length bytes.now) }
+    requires ends { (used : ℕ) × AreEnds 0 ends.now used × (used ≤ length bytes.now) }
     ensures key { result.0.now ≡ (slice_index_or (cut bytes.now 0 ends.now) i ([], [])).0 }
     ensures value { result.1.now ≡ (slice_index_or (cut bytes.now 0 ends.now) i ([], [])).1 }
 {
@@ -120,7 +165,7 @@ fn pair_at<'a>(bytes: &'a [u8], ends: &[(usize, usize)], i: usize) -> (&'a [u8],
 // Where a pair begins, and where its key and its value end.
 fn places_of(bytes: &[u8], ends: &[(usize, usize)], i: usize) -> (usize, usize, usize)
     requires in_range { i < length ends.now }
-    requires ends { AreEnds 0 ends.now (length bytes.now) }
+    requires ends { (used : ℕ) × AreEnds 0 ends.now used × (used ≤ length bytes.now) }
     ensures pair { slice_index_or (cut bytes.now 0 ends.now) i ([], [])
         ≡ (slice_range bytes.now result.0 result.1, slice_range bytes.now result.1 result.2) }
     ensures ordered { (result.0 ≤ result.1) × (result.1 ≤ result.2) × (result.2 ≤ length bytes.now) }

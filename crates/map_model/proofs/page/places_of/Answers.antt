@@ -1,4 +1,4 @@
-use Rattle.std.proofs.Common.{sym, ap, ◌∙◌, length, slice_range, slice_index_or, []}
+use Rattle.std.proofs.Common.{arith, sym, ap, ◌∙◌, slice_range, slice_index_or, []}
 use Rattle.map_model.proofs.Pages.{cut-at, ends-at}
 use Rattle.map_model.proofs.page.places_of.Goals as goal
 
@@ -10,5 +10,6 @@ returns-clause-pair c =
 
 pub returns-clause-ordered : goal.returns-clause-ordered
 returns-clause-ordered c =
-    let o = ends-at 0 c.args.ends.now (length c.args.bytes.now) c.args.i (0, 0) c.requires.ends c.requires.in_range in
-    (rw c.start_of.ensures o.0, o.1, o.2)
+    let used = c.requires.ends.0 in
+    let o = ends-at 0 c.args.ends.now used c.args.i (0, 0) c.requires.ends.1 c.requires.in_range in
+    (rw c.start_of.ensures o.0, o.1, omega (arith, o.2, c.requires.ends.2))

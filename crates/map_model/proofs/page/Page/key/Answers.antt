@@ -7,3 +7,6 @@ pub pair_at-requires-clause-in_range : goal.pair_at-requires-clause-in_range
 pair_at-requires-clause-in_range c =
     let count = ap (λ (p : Paged). length p.pairs) (sym c.self.view_is) ∙ length-cut c.self.inside.bytes.items 0 c.self.inside.ends.items in
     rw c.deref-2.ensures.value (subst (λ n. c.args.i < n) count c.requires)
+
+pub pair_at-requires-clause-ends : goal.pair_at-requires-clause-ends
+pair_at-requires-clause-ends c = rw (c.deref.ensures.value, c.deref-2.ensures.value) (c.self.inside.used, c.self.invariant.0, c.self.invariant.1)
