@@ -61,6 +61,8 @@ impl Sink for Tally {
 
     ghost faults = { λ t. 0 };
 
+    ghost connection = { λ t. 0 };
+
     fn write(&mut self, bytes: &[u8]) -> Result<usize, Stop>
         ensures bound { WritesAtMost result bytes.now }
         ensures some { IfOk result (λ n. 0 < length bytes.now → 0 < n) }

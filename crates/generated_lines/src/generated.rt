@@ -66,6 +66,8 @@ impl Source for Generated {
 
     ghost faults = { λ g. 0 };
 
+    ghost connection = { λ g. 0 };
+
     fn read(&mut self, buf: &mut [u8]) -> Result<usize, Stop>
         requires { 0 < length buf.old }
         ensures bound { ReadsAtMost result buf.new }

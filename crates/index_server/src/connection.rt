@@ -29,7 +29,8 @@ pub(crate) fn serve_connection<R: Wait + Sync, T: Ordered, S: Source, K: Sink>(
         (T.refusals store.old) (T.refusals store.new) (T.last store.old) (T.last store.new)
         (T.stands store.old) (T.stands store.new) }
     ensures kept { (T.lane store.new ≡ T.lane store.old) × (T.sole store.new ≡ T.sole store.old)
-        × (T.origin store.new ≡ T.origin store.old) }
+        × (T.origin store.new ≡ T.origin store.old)
+        × (S.connection input.new ≡ S.connection input.old) × (K.connection output.new ≡ K.connection output.old) }
     ensures forks { T.room store.new ≡ T.room store.old }
     ensures fits { (history : List Entry) → T.fits store.old history → T.fits store.new history }
 {

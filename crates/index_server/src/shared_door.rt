@@ -20,7 +20,8 @@ impl Begun for Brand {
     ghost faults = { 0 };
 }
 
-/// A door, with how many connections were accepted and closed since it was shared.
+/// A door, with how many connections were accepted and closed since it was shared. A worker gives a connection back by
+/// its own two ends: that alone ties replies to requests here, as no contract tells what was served between them.
 pub(crate) struct SharedDoor<D: Door, B: Begun> {
     door: D,
     sessions: u64,
@@ -57,7 +58,10 @@ impl<D: Door, B: Begun> SharedDoor<D, B> {
     }
 
     /// Waits for the next connection, unless the door failed or enough were accepted.
-    pub(crate) fn accept(&mut self) -> Next<D> {
+    pub(crate) fn accept(&mut self) -> Next<D>
+        ensures { (input : D.Input) → (output : D.Output) → result ≡ Next.Serve input output
+            → D.Input.connection input ≡ D.Output.connection output }
+    {
         if self.failed || (self.sessions != 0 && self.accepted == self.sessions) {
             return Next::Leave;
         }
@@ -75,7 +79,9 @@ impl<D: Door, B: Begun> SharedDoor<D, B> {
     }
 
     /// Gives a connection back.
-    pub(crate) fn close(&mut self, input: D::Input, output: D::Output) {
+    pub(crate) fn close(&mut self, input: D::Input, output: D::Output)
+        requires { D.Input.connection input ≡ D.Output.connection output }
+    {
         self.door.close(input, output);
         self.closed = raise(self.closed);
     }

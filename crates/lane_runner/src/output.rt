@@ -26,6 +26,8 @@ impl Sink for Output {
 
     ghost faults = { λ s. 0 };
 
+    ghost connection = { λ s. 0 };
+
     fn write(&mut self, bytes: &[u8]) -> Result<usize, Stop> {
         match self.bytes.extend_from_slice(bytes) {
             Ok(()) => Ok(bytes.len()),

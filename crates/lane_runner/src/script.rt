@@ -45,6 +45,8 @@ impl Source for Script {
 
     ghost faults = { λ s. 0 };
 
+    ghost connection = { λ s. 0 };
+
     fn read(&mut self, buf: &mut [u8]) -> Result<usize, Stop> {
         let n = (self.bytes.len() - self.at).min(buf.len());
         buf[..n].copy_from_slice(&self.bytes[self.at..self.at + n]);

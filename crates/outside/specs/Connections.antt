@@ -1,6 +1,7 @@
 -- Connections that a door gave and took back.
-use Rattle.std.specs.Prelude.{◌≡◌, ℕ, List, [], ◌∷◌, ◌++◌, Bool, false, Option, Some, None}
+use Rattle.std.specs.Prelude.{◌≡◌, ◌+◌, ℕ, List, [], ◌∷◌, ◌++◌, Bool, false, Option, Some, None, Result, Ok, Err}
 use Rattle.outside.specs.Reading.{Told}
+use Rattle.outside.specs.declared.stop.Stop.{Stop}
 
 -- the bytes taken from a connection, whether it answered 0, and the bytes written to it
 pub record Connection : Type 0 where
@@ -17,6 +18,11 @@ IsUnread (Some t) = (t.given ≡ []) × (t.ended ≡ false)
 abbrev pub IsUnwritten : Option (List ℕ) → Type 0
 IsUnwritten None = Unit {0}
 IsUnwritten (Some written) = written ≡ []
+
+-- A door gave one more connection at `Ok`, and none at a stop.
+abbrev pub Opens : {T : Type 0} → ℕ → ℕ → Result T Stop → Type 0
+Opens before now (Ok ends) = now ≡ before + 1
+Opens before now (Err stop) = now ≡ before
 
 -- Where a door tells its closed connections after a close, it told them before, both ends told, and their connection stands behind those before.
 abbrev pub Closes : Option (List Connection) → Option (List Connection) → Option Told → Option (List ℕ) → Type 0

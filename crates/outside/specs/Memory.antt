@@ -21,8 +21,15 @@ source_plan s = planned s.plan
 abbrev pub read_answer : MemSource → ℕ → Result ℕ Stop
 read_answer s most = if fails_next (source_plan s) then Err Failed else Ok (min (min (length (told_of s).left) (piece_of s)) most)
 
+-- the number of the connection of which it is an end
+abbrev pub source_connection : MemSource → ℕ
+source_connection s = s.connection
+
 abbrev pub written_of : MemSink → List ℕ
 written_of s = s.bytes.items
 
 abbrev pub sink_plan : MemSink → Planned
 sink_plan s = planned s.plan
+
+abbrev pub sink_connection : MemSink → ℕ
+sink_connection s = s.connection

@@ -12,6 +12,10 @@ use Rattle.outside.specs.declared.memory.MemSink.{MemSink}
 abbrev pub waiting_of : MemDoor → List (List ℕ)
 waiting_of d = map (λ (input : Vec ℕ). input.items) (drop d.next d.inputs.items)
 
+-- how many connections it gave
+abbrev pub opened_of : MemDoor → ℕ
+opened_of d = d.next
+
 -- of so many connections the door tells how they were closed
 abbrev pub room_of : MemDoor → ℕ
 room_of d = length d.inputs.items

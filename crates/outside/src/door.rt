@@ -1,11 +1,12 @@
 //! Where connections come from.
 ghost use Rattle.std.specs.Prelude.{◌≡◌, ℕ, ◌+◌, ◌-◌, ◌^◌, min, List, Option, IfOk};
 ghost use Rattle.outside.specs.Causes.{FaultsCounted};
-ghost use Rattle.outside.specs.Connections.{Connection, IsUnread, IsUnwritten, Closes};
+ghost use Rattle.outside.specs.Connections.{Connection, IsUnread, IsUnwritten, Opens, Closes};
 
 use crate::{Sink, Source, Stop};
 
-/// What clients connect to. Each connection that it gave is given back once it was served: its two ends can't be
+/// What clients connect to. Its connections are numbered from 0 in the order in which it gave them, and each has two
+/// ends, which have its number. A connection is given back once it was served, by both of its own ends: they can't be
 /// let go otherwise where their types are not known.
 pub trait Door {
     /// What a client sends.
@@ -17,6 +18,9 @@ pub trait Door {
     /// The closed connections in the order of closing; `None` where the door doesn't tell.
     ghost closed: { Self → Option (List Connection) };
 
+    /// How many connections it gave, which is the number of the next one.
+    ghost opened: { Self → ℕ };
+
     /// How many connections were closed.
     ghost closings: { Self → ℕ };
 
@@ -27,19 +31,25 @@ pub trait Door {
     fn listen(&mut self, address: &str) -> Result<(), Stop>
         ensures cause { FaultsCounted (faults self.old) (faults self.new) result }
         ensures closed { closed self.new ≡ closed self.old }
+        ensures opened { opened self.new ≡ opened self.old }
         ensures closings { closings self.new ≡ closings self.old };
 
     /// Waits for a connection.
     fn accept(&mut self) -> Result<(Self::Input, Self::Output), Stop>
         ensures unread { IfOk result (λ ends. IsUnread (Self.Input.told ends.0)) }
         ensures unwritten { IfOk result (λ ends. IsUnwritten (Self.Output.written ends.1)) }
+        ensures input { IfOk result (λ ends. Self.Input.connection ends.0 ≡ opened self.old) }
+        ensures output { IfOk result (λ ends. Self.Output.connection ends.1 ≡ opened self.old) }
+        ensures opened { Opens (opened self.old) (opened self.new) result }
         ensures cause { FaultsCounted (faults self.old) (faults self.new) result }
         ensures closed { closed self.new ≡ closed self.old }
         ensures closings { closings self.new ≡ closings self.old };
 
-    /// Takes a connection back, with no memory.
+    /// Takes both ends of a connection back, with no memory.
     fn close(&mut self, input: Self::Input, output: Self::Output)
+        requires { Self.Input.connection input ≡ Self.Output.connection output }
         ensures closed { Closes (closed self.old) (closed self.new) (Self.Input.told input) (Self.Output.written output) }
         ensures closings { closings self.new ≡ min (closings self.old + 1) (2 ^ 64 - 1) }
+        ensures opened { opened self.new ≡ opened self.old }
         ensures kept { faults self.new ≡ faults self.old };
 }

@@ -29,12 +29,13 @@ impl MemDoor {
     ghost use Rattle.std.specs.Prelude.{IfSome, ℕ};
     ghost use Rattle.outside.specs.Connections.{Connection};
     ghost use Rattle.outside.specs.Memory.{written_of};
-    ghost use Rattle.outside.specs.MemoryDoor.{waiting_of, room_of, door_plan, closed_of};
+    ghost use Rattle.outside.specs.MemoryDoor.{waiting_of, opened_of, room_of, door_plan, closed_of};
 
     /// A door of one connection for each input, in order. Its calls of `listen` and `accept` are numbered together
     /// from 1, and those whose numbers are in `fails` answer `Failed`. It has room for as many closed connections
     /// as there are inputs.
     pub fn new(alloc: Global, inputs: Vec<Vec<u8>>, fails: &[u64]) -> Result<MemDoor, AllocError>
+        ensures opened { IfOk result (λ d. opened_of d ≡ 0) }
         ensures waiting { IfOk result (λ d. waiting_of d ≡ map (λ (input : Vec ℕ). input.items) inputs.items) }
         ensures room { IfOk result (λ d. room_of d ≡ length inputs.items) }
         ensures plan { IfOk result (λ d. door_plan d ≡ record { fails = fails.now; calls = 0; faults = 0 }) }
@@ -69,12 +70,14 @@ impl Door for MemDoor {
 
     ghost use Rattle.std.specs.Prelude.{◌∷◌, ◌↔◌, IsTrue, if◌then◌else◌};
     ghost use Rattle.outside.specs.Causes.{FaultsCounted};
-    ghost use Rattle.outside.specs.Connections.{IsUnread, IsUnwritten, Closes};
-    ghost use Rattle.outside.specs.Memory.{told_of, piece_of, source_plan, written_of, sink_plan};
-    ghost use Rattle.outside.specs.MemoryDoor.{waiting_of, room_of, door_plan, accept_fails, after_accept, connection_of, closed_of, told_after};
+    ghost use Rattle.outside.specs.Connections.{IsUnread, IsUnwritten, Opens, Closes};
+    ghost use Rattle.outside.specs.Memory.{told_of, piece_of, source_plan, source_connection, written_of, sink_plan, sink_connection};
+    ghost use Rattle.outside.specs.MemoryDoor.{waiting_of, opened_of, room_of, door_plan, accept_fails, after_accept, connection_of, closed_of, told_after};
     ghost use Rattle.outside.specs.Plans.{fails_next, after_call};
 
     ghost closed = { λ d. closed_of d };
+
+    ghost opened = { λ d. opened_of d };
 
     ghost closings = { λ d. d.closings };
 
@@ -83,6 +86,7 @@ impl Door for MemDoor {
     fn listen(&mut self, _address: &str) -> Result<(), Stop>
         ensures cause { FaultsCounted (door_plan self.old).faults (door_plan self.new).faults result }
         ensures closed { closed_of self.new ≡ closed_of self.old }
+        ensures opened { opened_of self.new ≡ opened_of self.old }
         ensures closings { self.new.closings ≡ self.old.closings }
 
         // The answer is known, and no connection is touched.
@@ -100,6 +104,9 @@ impl Door for MemDoor {
     fn accept(&mut self) -> Result<(MemSource, MemSink), Stop>
         ensures unread { IfOk result (λ ends. IsUnread (Some (told_of ends.0))) }
         ensures unwritten { IfOk result (λ ends. IsUnwritten (Some (written_of ends.1))) }
+        ensures input { IfOk result (λ ends. source_connection ends.0 ≡ opened_of self.old) }
+        ensures output { IfOk result (λ ends. sink_connection ends.1 ≡ opened_of self.old) }
+        ensures opened { Opens (opened_of self.old) (opened_of self.new) result }
         ensures cause { FaultsCounted (door_plan self.old).faults (door_plan self.new).faults result }
         ensures closed { closed_of self.new ≡ closed_of self.old }
         ensures closings { self.new.closings ≡ self.old.closings }
@@ -109,7 +116,7 @@ impl Door for MemDoor {
         ensures plan { door_plan self.new ≡ after_accept self.old }
 
         // The first input that waits is the client's, and only an Ok uses it up.
-        ensures input { IfOk result (λ ends. waiting_of self.old ≡ (told_of ends.0).left ∷ waiting_of self.new) }
+        ensures taken { IfOk result (λ ends. waiting_of self.old ≡ (told_of ends.0).left ∷ waiting_of self.new) }
         ensures refused { OnErr result (waiting_of self.new ≡ waiting_of self.old) }
         ensures room { room_of self.new ≡ room_of self.old }
 
@@ -125,15 +132,18 @@ impl Door for MemDoor {
             self.plan.count_fault();
             return Err(Stop::Failed);
         }
+        let number = self.next as u64;
         let source = MemSource::new(self.alloc, &self.inputs[self.next], usize::MAX, &[])?;
         let sink = MemSink::new(self.alloc, &[])?;
         self.next += 1;
-        Ok((source, sink))
+        Ok((source.of_connection(number), sink.of_connection(number)))
     }
 
     fn close(&mut self, input: MemSource, output: MemSink)
+        requires { source_connection input ≡ sink_connection output }
         ensures closed { Closes (closed_of self.old) (closed_of self.new) (Some (told_of input)) (Some (written_of output)) }
         ensures closings { self.new.closings ≡ min (self.old.closings + 1) (2 ^ 64 - 1) }
+        ensures opened { opened_of self.new ≡ opened_of self.old }
         ensures kept { (door_plan self.new).faults ≡ (door_plan self.old).faults }
 
         // What is told is known: a close for which there is no room ends it.

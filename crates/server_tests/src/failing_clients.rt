@@ -1,7 +1,7 @@
 //! Clients that fail in the middle: each ends its own connection alone.
-ghost use Rattle.std.specs.Prelude.{None, Some, IfOk};
+ghost use Rattle.std.specs.Prelude.{◌≡◌, None, Some, IfOk};
 ghost use Rattle.outside.specs.Connections.{IsUnread, IsUnwritten};
-ghost use Rattle.outside.specs.Memory.{told_of, written_of};
+ghost use Rattle.outside.specs.Memory.{told_of, written_of, source_connection, sink_connection};
 
 use counts::raise;
 use index_server::{DoorEnd, serve_alone};
@@ -33,10 +33,13 @@ impl FailingClients<'_> {
     fn ends(&self, client: &Client<'_>) -> Result<(MemSource, MemSink), AllocError>
         ensures unread { IfOk result (λ ends. IsUnread (Some (told_of ends.0))) }
         ensures unwritten { IfOk result (λ ends. IsUnwritten (Some (written_of ends.1))) }
+        ensures input { IfOk result (λ ends. source_connection ends.0 ≡ self.now.accepted) }
+        ensures output { IfOk result (λ ends. sink_connection ends.1 ≡ self.now.accepted) }
     {
+        let number = self.accepted as u64;
         let input = MemSource::new(self.alloc, client.sends, 8, client.reads_fail)?;
         let output = MemSink::new(self.alloc, client.writes_fail)?;
-        Ok((input, output))
+        Ok((input.of_connection(number), output.of_connection(number)))
     }
 }
 
@@ -46,6 +49,8 @@ impl Door for FailingClients<'_> {
     type Output = MemSink;
 
     ghost closed = { λ d. None };
+
+    ghost opened = { λ d. d.accepted };
 
     ghost closings = { λ d. d.closings };
 
@@ -59,7 +64,7 @@ impl Door for FailingClients<'_> {
         match self.clients.get(self.accepted) {
             Some(client) => {
                 let ends = self.ends(client)?;
-                self.accepted = self.accepted.saturating_add(1);
+                self.accepted += 1;
                 Ok(ends)
             }
             None => {

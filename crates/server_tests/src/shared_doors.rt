@@ -1,7 +1,7 @@
 //! A server with two workers: two connections are served at the same time, each has the replies to its own requests,
 //! and what the workers did is seen by the first lane at the end.
 ghost use Rattle.std.specs.Prelude.{None, ◌≡◌, [], IfOk};
-ghost use Rattle.outside.specs.Memory.{source_plan, sink_plan};
+ghost use Rattle.outside.specs.Memory.{source_plan, source_connection, sink_plan, sink_connection};
 
 use crate::memory_doors::{door_of, has_written};
 use counts::raise;
@@ -41,6 +41,8 @@ impl Source for Waiting<'_> {
 
     ghost faults = { λ s. (source_plan s.bytes).faults };
 
+    ghost connection = { λ s. source_connection s.bytes };
+
     fn read(&mut self, buf: &mut [u8]) -> Result<usize, Stop> {
         if self.waits {
             self.waits = false;
@@ -77,6 +79,8 @@ impl Sink for Telling<'_> {
 
     ghost faults = { λ s. (sink_plan s.bytes).faults };
 
+    ghost connection = { λ s. sink_connection s.bytes };
+
     fn write(&mut self, bytes: &[u8]) -> Result<usize, Stop> {
         let answer = self.bytes.write(bytes);
         if self.tells && answer.is_ok() {
@@ -98,14 +102,20 @@ struct TwoClients<'a> {
 }
 
 impl<'a> TwoClients<'a> {
-    fn ends(&self, sends: &[u8], first: bool) -> Result<(Waiting<'a>, Telling<'a>), AllocError> {
+    fn ends(&self, sends: &[u8], first: bool) -> Result<(Waiting<'a>, Telling<'a>), AllocError>
+        ensures input { IfOk result (λ ends. source_connection ends.0.bytes ≡ self.now.accepted) }
+        ensures output { IfOk result (λ ends. sink_connection ends.1.bytes ≡ self.now.accepted) }
+    {
+        let number = self.accepted as u64;
+        let bytes = MemSource::new(self.alloc, sends, 4_096, &[])?;
+        let replies = MemSink::new(self.alloc, &[])?;
         let input = Waiting {
-            bytes: MemSource::new(self.alloc, sends, 4_096, &[])?,
+            bytes: bytes.of_connection(number),
             waits: first,
             between: self.between,
         };
         let output = Telling {
-            bytes: MemSink::new(self.alloc, &[])?,
+            bytes: replies.of_connection(number),
             tells: !first,
             between: self.between,
         };
@@ -119,6 +129,8 @@ impl<'a> Door for TwoClients<'a> {
     type Output = Telling<'a>;
 
     ghost closed = { λ d. None };
+
+    ghost opened = { λ d. d.accepted };
 
     ghost closings = { λ d. d.closings };
 
@@ -137,7 +149,7 @@ impl<'a> Door for TwoClients<'a> {
                 return Err(Stop::Failed);
             }
         };
-        self.accepted = self.accepted.saturating_add(1);
+        self.accepted += 1;
         Ok(ends)
     }
 

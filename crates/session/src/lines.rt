@@ -45,7 +45,8 @@ pub(crate) fn serve_request<O: Ordered, K: Sink, P: Patience>(
     ensures served { Serves O.stands O.lane O.sole O.fits O.refusals O.last (P.limit patience.old) store.old store.new
         (Reaches result (Ok (Some request.entry) ∷ [])) (WritesPieces result (K.written sink.old) (K.written sink.new)) }
     ensures kept { (O.lane store.new ≡ O.lane store.old) × (O.sole store.new ≡ O.sole store.old)
-        × (O.origin store.new ≡ O.origin store.old) × (P.limit patience.new ≡ P.limit patience.old) }
+        × (O.origin store.new ≡ O.origin store.old) × (P.limit patience.new ≡ P.limit patience.old)
+        × (K.connection sink.new ≡ K.connection sink.old) }
     ensures forks { O.room store.new ≡ O.room store.old }
     ensures fits { (history : List Entry) → O.fits store.old history → O.fits store.new history }
     ensures cause { FaultsCounted (K.faults sink.old) (K.faults sink.new) result }
@@ -71,6 +72,7 @@ fn reply_fault<K: Sink>(sink: &mut K, out: &mut Vec<u8>, fault: Fault) -> Result
     ensures gained { Gained result (K.written sink.old) (K.written sink.new) (text (Answer.Fault fault)) }
     ensures quit { IfOk result (λ quit. quit ≡ false) }
     ensures cause { FaultsCounted (K.faults sink.old) (K.faults sink.new) result }
+    ensures kept { K.connection sink.new ≡ K.connection sink.old }
 {
     match reply(sink, out, &Answer::Fault(fault)) {
         Ok(()) => Ok(false),
@@ -93,7 +95,8 @@ pub(crate) fn serve_line<O: Ordered, K: Sink, P: Patience>(
         (Reaches result (if_any (asked_for line.now))) (WritesPieces result (K.written sink.old) (K.written sink.new)) }
     ensures quit { IfOk result (λ quit. quit ≡ has_quit (if_any (asked_for line.now))) }
     ensures kept { (O.lane store.new ≡ O.lane store.old) × (O.sole store.new ≡ O.sole store.old)
-        × (O.origin store.new ≡ O.origin store.old) × (P.limit patience.new ≡ P.limit patience.old) }
+        × (O.origin store.new ≡ O.origin store.old) × (P.limit patience.new ≡ P.limit patience.old)
+        × (K.connection sink.new ≡ K.connection sink.old) }
     ensures forks { O.room store.new ≡ O.room store.old }
     ensures fits { (history : List Entry) → O.fits store.old history → O.fits store.new history }
     ensures cause { FaultsCounted (K.faults sink.old) (K.faults sink.new) result }
@@ -130,7 +133,8 @@ pub(crate) fn serve_told<O: Ordered, K: Sink, P: Patience>(
         (WritesPieces result (K.written sink.old) (K.written sink.new)) }
     ensures quit { IfOk result (λ quit. quit ≡ has_quit (asked_by_all (told_by event line.now))) }
     ensures kept { (O.lane store.new ≡ O.lane store.old) × (O.sole store.new ≡ O.sole store.old)
-        × (O.origin store.new ≡ O.origin store.old) × (P.limit patience.new ≡ P.limit patience.old) }
+        × (O.origin store.new ≡ O.origin store.old) × (P.limit patience.new ≡ P.limit patience.old)
+        × (K.connection sink.new ≡ K.connection sink.old) }
     ensures forks { O.room store.new ≡ O.room store.old }
     ensures fits { (history : List Entry) → O.fits store.old history → O.fits store.new history }
     ensures cause { FaultsCounted (K.faults sink.old) (K.faults sink.new) result }
@@ -168,7 +172,8 @@ fn serve_next<O: Ordered, K: Sink, P: Patience>(
     ensures held { (part : List ℕ) → Holds lines.old part →
         Holds lines.new (open_part part (take result.0 piece.now)) }
     ensures kept { (O.lane store.new ≡ O.lane store.old) × (O.sole store.new ≡ O.sole store.old)
-        × (O.origin store.new ≡ O.origin store.old) × (P.limit patience.new ≡ P.limit patience.old) }
+        × (O.origin store.new ≡ O.origin store.old) × (P.limit patience.new ≡ P.limit patience.old)
+        × (K.connection sink.new ≡ K.connection sink.old) }
     ensures forks { O.room store.new ≡ O.room store.old }
     ensures fits { (history : List Entry) → O.fits store.old history → O.fits store.new history }
     ensures cause { FaultsCounted (K.faults sink.old) (K.faults sink.new) result.1 }
@@ -218,7 +223,8 @@ pub(crate) fn serve_piece<O: Ordered, K: Sink, P: Patience>(
     ensures held { (part : List ℕ) → Holds lines.old part →
         IfOk result (λ quit. OnFalse quit (Holds lines.new (open_part part piece.now))) }
     ensures kept { (O.lane store.new ≡ O.lane store.old) × (O.sole store.new ≡ O.sole store.old)
-        × (O.origin store.new ≡ O.origin store.old) × (P.limit patience.new ≡ P.limit patience.old) }
+        × (O.origin store.new ≡ O.origin store.old) × (P.limit patience.new ≡ P.limit patience.old)
+        × (K.connection sink.new ≡ K.connection sink.old) }
     ensures forks { O.room store.new ≡ O.room store.old }
     ensures fits { (history : List Entry) → O.fits store.old history → O.fits store.new history }
     ensures cause { FaultsCounted (K.faults sink.old) (K.faults sink.new) result }
@@ -252,7 +258,8 @@ pub(crate) fn serve_rest<O: Ordered, K: Sink, P: Patience>(
     ensures quit { (part : List ℕ) → Holds lines.old part →
         IfOk result (λ quit. quit ≡ has_quit (asked_by_all (last_told part))) }
     ensures kept { (O.lane store.new ≡ O.lane store.old) × (O.sole store.new ≡ O.sole store.old)
-        × (O.origin store.new ≡ O.origin store.old) × (P.limit patience.new ≡ P.limit patience.old) }
+        × (O.origin store.new ≡ O.origin store.old) × (P.limit patience.new ≡ P.limit patience.old)
+        × (K.connection sink.new ≡ K.connection sink.old) }
     ensures forks { O.room store.new ≡ O.room store.old }
     ensures fits { (history : List Entry) → O.fits store.old history → O.fits store.new history }
     ensures cause { FaultsCounted (K.faults sink.old) (K.faults sink.new) result }

@@ -32,7 +32,8 @@ fn serve_put<O: Ordered, K: Sink, P: Patience>(
         (λ asked. asked ≡ Ok (Some (asks.Put key.now value.now)) ∷ [])
         (WritesPieces result (K.written sink.old) (K.written sink.new)) }
     ensures kept { (O.lane store.new ≡ O.lane store.old) × (O.sole store.new ≡ O.sole store.old)
-        × (O.origin store.new ≡ O.origin store.old) × (P.limit patience.new ≡ P.limit patience.old) }
+        × (O.origin store.new ≡ O.origin store.old) × (P.limit patience.new ≡ P.limit patience.old)
+        × (K.connection sink.new ≡ K.connection sink.old) }
     ensures forks { O.room store.new ≡ O.room store.old }
     ensures fits { (history : List Entry) → O.fits store.old history → O.fits store.new history }
     ensures cause { FaultsCounted (K.faults sink.old) (K.faults sink.new) result }
@@ -60,7 +61,8 @@ pub(crate) fn put_request<O: Ordered, K: Sink, P: Patience>(
         (Reaches result (Ok (Some (asks.Put key.now value.now)) ∷ []))
         (WritesPieces result (K.written sink.old) (K.written sink.new)) }
     ensures kept { (O.lane store.new ≡ O.lane store.old) × (O.sole store.new ≡ O.sole store.old)
-        × (O.origin store.new ≡ O.origin store.old) × (P.limit patience.new ≡ P.limit patience.old) }
+        × (O.origin store.new ≡ O.origin store.old) × (P.limit patience.new ≡ P.limit patience.old)
+        × (K.connection sink.new ≡ K.connection sink.old) }
     ensures forks { O.room store.new ≡ O.room store.old }
     ensures fits { (history : List Entry) → O.fits store.old history → O.fits store.new history }
     ensures cause { FaultsCounted (K.faults sink.old) (K.faults sink.new) result }
@@ -84,7 +86,8 @@ fn serve_get<O: Ordered, K: Sink, P: Patience>(
         (λ asked. asked ≡ Ok (Some (asks.Get key.now)) ∷ [])
         (WritesPieces result (K.written sink.old) (K.written sink.new)) }
     ensures kept { (O.lane store.new ≡ O.lane store.old) × (O.sole store.new ≡ O.sole store.old)
-        × (O.origin store.new ≡ O.origin store.old) × (P.limit patience.new ≡ P.limit patience.old) }
+        × (O.origin store.new ≡ O.origin store.old) × (P.limit patience.new ≡ P.limit patience.old)
+        × (K.connection sink.new ≡ K.connection sink.old) }
     ensures forks { O.room store.new ≡ O.room store.old }
     ensures fits { (history : List Entry) → O.fits store.old history → O.fits store.new history }
     ensures cause { FaultsCounted (K.faults sink.old) (K.faults sink.new) result }
@@ -114,7 +117,8 @@ pub(crate) fn get_request<O: Ordered, K: Sink, P: Patience>(
         (Reaches result (Ok (Some (asks.Get key.now)) ∷ []))
         (WritesPieces result (K.written sink.old) (K.written sink.new)) }
     ensures kept { (O.lane store.new ≡ O.lane store.old) × (O.sole store.new ≡ O.sole store.old)
-        × (O.origin store.new ≡ O.origin store.old) × (P.limit patience.new ≡ P.limit patience.old) }
+        × (O.origin store.new ≡ O.origin store.old) × (P.limit patience.new ≡ P.limit patience.old)
+        × (K.connection sink.new ≡ K.connection sink.old) }
     ensures forks { O.room store.new ≡ O.room store.old }
     ensures fits { (history : List Entry) → O.fits store.old history → O.fits store.new history }
     ensures cause { FaultsCounted (K.faults sink.old) (K.faults sink.new) result }
@@ -138,7 +142,8 @@ fn serve_del<O: Ordered, K: Sink, P: Patience>(
         (λ asked. asked ≡ Ok (Some (asks.Del key.now)) ∷ [])
         (WritesPieces result (K.written sink.old) (K.written sink.new)) }
     ensures kept { (O.lane store.new ≡ O.lane store.old) × (O.sole store.new ≡ O.sole store.old)
-        × (O.origin store.new ≡ O.origin store.old) × (P.limit patience.new ≡ P.limit patience.old) }
+        × (O.origin store.new ≡ O.origin store.old) × (P.limit patience.new ≡ P.limit patience.old)
+        × (K.connection sink.new ≡ K.connection sink.old) }
     ensures forks { O.room store.new ≡ O.room store.old }
     ensures fits { (history : List Entry) → O.fits store.old history → O.fits store.new history }
     ensures cause { FaultsCounted (K.faults sink.old) (K.faults sink.new) result }
@@ -164,7 +169,8 @@ pub(crate) fn del_request<O: Ordered, K: Sink, P: Patience>(
         (Reaches result (Ok (Some (asks.Del key.now)) ∷ []))
         (WritesPieces result (K.written sink.old) (K.written sink.new)) }
     ensures kept { (O.lane store.new ≡ O.lane store.old) × (O.sole store.new ≡ O.sole store.old)
-        × (O.origin store.new ≡ O.origin store.old) × (P.limit patience.new ≡ P.limit patience.old) }
+        × (O.origin store.new ≡ O.origin store.old) × (P.limit patience.new ≡ P.limit patience.old)
+        × (K.connection sink.new ≡ K.connection sink.old) }
     ensures forks { O.room store.new ≡ O.room store.old }
     ensures fits { (history : List Entry) → O.fits store.old history → O.fits store.new history }
     ensures cause { FaultsCounted (K.faults sink.old) (K.faults sink.new) result }

@@ -38,7 +38,8 @@ pub(crate) fn serve_scan<O: Ordered, K: Sink, P: Patience>(
         (λ asked. asked ≡ Ok (Some (asks.Scan from to.now most)) ∷ [])
         (WritesPieces result (K.written sink.old) (K.written sink.new)) }
     ensures kept { (O.lane store.new ≡ O.lane store.old) × (O.sole store.new ≡ O.sole store.old)
-        × (O.origin store.new ≡ O.origin store.old) × (P.limit patience.new ≡ P.limit patience.old) }
+        × (O.origin store.new ≡ O.origin store.old) × (P.limit patience.new ≡ P.limit patience.old)
+        × (K.connection sink.new ≡ K.connection sink.old) }
     ensures forks { O.room store.new ≡ O.room store.old }
     ensures fits { (history : List Entry) → O.fits store.old history → O.fits store.new history }
     ensures cause { FaultsCounted (K.faults sink.old) (K.faults sink.new) result }

@@ -59,7 +59,8 @@ pub fn serve<O: Ordered, S: Source, K: Sink, P: Patience>(
     ensures read { result ≡ SessionEnd.ReadFault → Rose (S.faults source.old) (S.faults source.new) }
     ensures write { result ≡ SessionEnd.WriteFault → Rose (K.faults sink.old) (K.faults sink.new) }
     ensures kept { (O.lane store.new ≡ O.lane store.old) × (O.sole store.new ≡ O.sole store.old)
-        × (O.origin store.new ≡ O.origin store.old) × (P.limit patience.new ≡ P.limit patience.old) }
+        × (O.origin store.new ≡ O.origin store.old) × (P.limit patience.new ≡ P.limit patience.old)
+        × (S.connection source.new ≡ S.connection source.old) × (K.connection sink.new ≡ K.connection sink.old) }
     ensures forks { O.room store.new ≡ O.room store.old }
     ensures fits { (history : List Entry) → O.fits store.old history → O.fits store.new history }
 {
@@ -85,7 +86,8 @@ fn serve_reads<O: Ordered, S: Source, K: Sink, P: Patience>(
     ensures read { result ≡ SessionEnd.ReadFault → Rose (S.faults source.old) (S.faults source.new) }
     ensures write { result ≡ SessionEnd.WriteFault → Rose (K.faults sink.old) (K.faults sink.new) }
     ensures kept { (O.lane store.new ≡ O.lane store.old) × (O.sole store.new ≡ O.sole store.old)
-        × (O.origin store.new ≡ O.origin store.old) × (P.limit patience.new ≡ P.limit patience.old) }
+        × (O.origin store.new ≡ O.origin store.old) × (P.limit patience.new ≡ P.limit patience.old)
+        × (S.connection source.new ≡ S.connection source.old) × (K.connection sink.new ≡ K.connection sink.old) }
     ensures forks { O.room store.new ≡ O.room store.old }
     ensures fits { (history : List Entry) → O.fits store.old history → O.fits store.new history }
 {
@@ -141,7 +143,7 @@ fn read_resting<O: Ordered, S: Source>(
     requires { 0 < length buf.old }
     ensures seen { Follows (O.stands store.old) (O.stands store.new) (λ old new. new ≡ old) }
     ensures kept { (O.lane store.new ≡ O.lane store.old) × (O.sole store.new ≡ O.sole store.old)
-        × (O.origin store.new ≡ O.origin store.old) }
+        × (O.origin store.new ≡ O.origin store.old) × (S.connection source.new ≡ S.connection source.old) }
     ensures forks { O.room store.new ≡ O.room store.old }
     ensures fits { (history : List Entry) → O.fits store.old history → O.fits store.new history }
     ensures counted { (O.refusals store.new ≡ O.refusals store.old) × (O.last store.new ≡ O.last store.old) }

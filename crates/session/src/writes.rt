@@ -15,6 +15,7 @@ use std::alloc::AllocError;
 pub fn write_all<K: Sink>(sink: &mut K, bytes: &[u8]) -> Result<(), Stop>
     ensures gained { Gained result (K.written sink.old) (K.written sink.new) bytes.now }
     ensures cause { FaultsCounted (K.faults sink.old) (K.faults sink.new) result }
+    ensures kept { K.connection sink.new ≡ K.connection sink.old }
 {
     if bytes.is_empty() {
         return Ok(());
@@ -36,6 +37,7 @@ pub fn write_all<K: Sink>(sink: &mut K, bytes: &[u8]) -> Result<(), Stop>
 fn write_rest<K: Sink>(sink: &mut K, bytes: &[u8]) -> Result<(), Stop>
     ensures gained { Gained result (K.written sink.old) (K.written sink.new) bytes.now }
     ensures cause { FaultsCounted (K.faults sink.old) (K.faults sink.new) result }
+    ensures kept { K.connection sink.new ≡ K.connection sink.old }
 {
     let mut at = 0;
     'pieces: while at < bytes.len() {
@@ -56,6 +58,7 @@ pub(crate) fn reply<K: Sink>(
 ) -> Result<(), Stop>
     ensures gained { Gained result (K.written sink.old) (K.written sink.new) (text answer.now) }
     ensures cause { FaultsCounted (K.faults sink.old) (K.faults sink.new) result }
+    ensures kept { K.connection sink.new ≡ K.connection sink.old }
 {
     if let Some(line) = whole_line(answer) {
         return write_all(sink, line);
@@ -73,6 +76,7 @@ pub(crate) fn reply<K: Sink>(
 pub(crate) fn refuse<K: Sink>(sink: &mut K, out: &mut Vec<u8>, refusal: Refusal) -> Result<(), Stop>
     ensures gained { Gained result (K.written sink.old) (K.written sink.new) (refusal_line refusal) }
     ensures cause { FaultsCounted (K.faults sink.old) (K.faults sink.new) result }
+    ensures kept { K.connection sink.new ≡ K.connection sink.old }
 {
     match refusal {
         Refusal::Again(cause) => reply(sink, out, &Answer::Again(cause)),
@@ -92,6 +96,7 @@ pub(crate) fn write_pairs<K: Sink>(
         (pair_lines (take most page.now.pairs)) }
     ensures count { IfOk result (λ n. n ≡ min most (length page.now.pairs)) }
     ensures cause { FaultsCounted (K.faults sink.old) (K.faults sink.new) result }
+    ensures kept { K.connection sink.new ≡ K.connection sink.old }
 {
     match set_pairs(out, page, most) {
         Ok(count) => match write_all(sink, out) {

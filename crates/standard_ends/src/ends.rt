@@ -51,6 +51,8 @@ impl<R: Read, W: Write> Source for StdSource<'_, R, W> {
 
     ghost faults = { λ s. source_faults s };
 
+    ghost connection = { λ s. 0 };
+
     fn read(&mut self, buf: &mut [u8]) -> Result<usize, Stop>
         ensures bound { ReadsAtMost result buf.new }
         ensures cause { FaultsCounted (source_faults self.old) (source_faults self.new) result }
@@ -95,6 +97,8 @@ impl<W: Write> Sink for StdSink<'_, W> {
     ghost written = { λ s. None };
 
     ghost faults = { λ s. sink_faults s };
+
+    ghost connection = { λ s. 0 };
 
     #[inline(always)]
     fn write(&mut self, bytes: &[u8]) -> Result<usize, Stop> {

@@ -1,5 +1,5 @@
 //! A door over TCP.
-ghost use Rattle.std.specs.Prelude.{◌≡◌};
+ghost use Rattle.std.specs.Prelude.{◌≡◌, ◌<◌, ◌-◌, ◌^◌, IfOk};
 
 use crate::ends::{TcpSink, TcpSource, ends_of};
 use counts::raise;
@@ -22,21 +22,24 @@ const ENOBUFS: i32 = 105;
 
 const EHOSTDOWN: i32 = 112;
 
-/// A door that listens at an address of the system. It doesn't tell its closed connections.
+/// A door that listens at an address of the system. It doesn't tell its closed connections. Once it gave 2^64 - 1
+/// of them it has no number for another, and fails.
 #[derive(Drop)]
 pub struct TcpDoor<'a, R> {
     rt: &'a R,
     alloc: Global,
     listener: Option<TcpListener>,
+    opened: u64,
     closings: u64,
     faults: u64,
 }
 
 impl<'a, R> TcpDoor<'a, R> {
-    ghost use Rattle.tcp_ends.specs.Doors.{door_closings, door_faults};
+    ghost use Rattle.tcp_ends.specs.Doors.{door_opened, door_closings, door_faults, source_connection, sink_connection};
 
     /// A door that doesn't listen yet. It takes no memory.
     pub fn new(rt: &'a R, alloc: Global) -> TcpDoor<'a, R>
+        ensures opened { door_opened result ≡ 0 }
         ensures closings { door_closings result ≡ 0 }
         ensures faults { door_faults result ≡ 0 }
     {
@@ -44,6 +47,7 @@ impl<'a, R> TcpDoor<'a, R> {
             rt,
             alloc,
             listener: None,
+            opened: 0,
             closings: 0,
             faults: 0,
         }
@@ -72,13 +76,20 @@ impl<'a, R> TcpDoor<'a, R> {
         Err(Stop::Failed)
     }
 
-    // The two ends of the next connection.
-    fn next_ends(&self) -> Result<(TcpSource, TcpSink), Stop> {
+    // The two ends of the next connection, as long as there is a number for it.
+    fn next_ends(&self) -> Result<(TcpSource, TcpSink), Stop>
+        ensures input { IfOk result (λ ends. source_connection ends.0 ≡ door_opened self.now) }
+        ensures output { IfOk result (λ ends. sink_connection ends.1 ≡ door_opened self.now) }
+        ensures some { IfOk result (λ _. door_opened self.now < 2 ^ 64 - 1) }
+    {
+        if self.opened == u64::MAX {
+            return Err(Stop::Failed);
+        }
         let stream = self.next_stream()?;
         // Without it a reply could wait until the one before it has been acknowledged. It is served all the same.
         let _ = stream.set_nodelay(true);
         match stream.try_clone() {
-            Ok(other) => Ok(ends_of(self.alloc, stream, other)?),
+            Ok(other) => Ok(ends_of(self.alloc, stream, other, self.opened)?),
             Err(_) => Err(Stop::NoMemory),
         }
     }
@@ -121,9 +132,11 @@ impl<R: Net<Listener = TcpListener, Stream = TcpStream>> Door for TcpDoor<'_, R>
     type Output = TcpSink;
 
     ghost use Rattle.std.specs.Prelude.{None};
-    ghost use Rattle.tcp_ends.specs.Doors.{door_closings, door_faults};
+    ghost use Rattle.tcp_ends.specs.Doors.{door_opened, door_closings, door_faults};
 
     ghost closed = { λ d. None };
+
+    ghost opened = { λ d. door_opened d };
 
     ghost closings = { λ d. door_closings d };
 
@@ -144,7 +157,10 @@ impl<R: Net<Listener = TcpListener, Stream = TcpStream>> Door for TcpDoor<'_, R>
 
     fn accept(&mut self) -> Result<(TcpSource, TcpSink), Stop> {
         match self.next_ends() {
-            Ok(ends) => Ok(ends),
+            Ok(ends) => {
+                self.opened += 1;
+                Ok(ends)
+            }
             Err(Stop::NoMemory) => Err(Stop::NoMemory),
             Err(Stop::Failed) => {
                 self.faults = raise(self.faults);

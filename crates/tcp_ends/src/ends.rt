@@ -3,6 +3,7 @@
 ghost use Rattle.std.specs.Prelude.{◌≡◌, ◌<◌, None, length, IfOk};
 ghost use Rattle.std.specs.Io.{ReadsAtMost, WritesAtMost};
 ghost use Rattle.outside.specs.Causes.{FaultsCounted};
+ghost use Rattle.tcp_ends.specs.Doors.{source_connection, sink_connection};
 
 use crate::closing::end_output;
 use counts::raise;
@@ -24,6 +25,7 @@ pub struct TcpSource {
     reader: BufReader<TcpStream>,
     replies: Replies,
     faults: u64,
+    connection: u64,
 }
 
 /// What a client gets. Replies are collected. An empty write ends the output: what waits is handed on, and the client
@@ -33,14 +35,20 @@ pub struct TcpSource {
 pub struct TcpSink {
     replies: Replies,
     faults: u64,
+    connection: u64,
 }
 
-/// The two ends of a connection, by two descriptors of its socket. Without memory the connection is lost.
+/// The two ends of the connection of this number, by two descriptors of its socket. Without memory the connection is
+/// lost.
 pub(crate) fn ends_of(
     alloc: Global,
     input: TcpStream,
     output: TcpStream,
-) -> Result<(TcpSource, TcpSink), AllocError> {
+    connection: u64,
+) -> Result<(TcpSource, TcpSink), AllocError>
+    ensures input { IfOk result (λ ends. source_connection ends.0 ≡ connection) }
+    ensures output { IfOk result (λ ends. sink_connection ends.1 ≡ connection) }
+{
     let replies = Arc::new(alloc, Mutex::new(Some(Outgoing::new(alloc, output))))?;
     let same = Arc::try_clone(&replies)?;
     let Ok(reader) = BufReader::with_capacity(alloc, BUFFER, input) else {
@@ -50,10 +58,12 @@ pub(crate) fn ends_of(
         reader,
         replies,
         faults: 0,
+        connection,
     };
     let sink = TcpSink {
         replies: same,
         faults: 0,
+        connection,
     };
     Ok((source, sink))
 }
@@ -62,6 +72,8 @@ impl Source for TcpSource {
     ghost told = { λ s. None };
 
     ghost faults = { λ s. s.faults };
+
+    ghost connection = { λ s. s.connection };
 
     fn read(&mut self, buf: &mut [u8]) -> Result<usize, Stop> {
         if let Some(mut replies) = self.replies.try_lock() {
@@ -80,6 +92,8 @@ impl Sink for TcpSink {
     ghost written = { λ s. None };
 
     ghost faults = { λ s. s.faults };
+
+    ghost connection = { λ s. s.connection };
 
     fn write(&mut self, bytes: &[u8]) -> Result<usize, Stop> {
         match self.replies.try_lock() {

@@ -54,9 +54,7 @@ fn serves_a_client<R: Net<Listener = TcpListener, Stream = TcpStream>>(
     let Ok((mut input, mut output)) = door.accept() else {
         return false;
     };
-    let talked = talks(&mut client, &mut input, &mut output);
-    door.close(input, output);
-    unheard && listens && talked
+    unheard && listens && talks(&mut client, &mut input, &mut output)
 }
 
 #[test]

@@ -1,4 +1,4 @@
-use Rattle.std.proofs.Common.{◌≤◌, ◌∙◌, arith, rules}
+use Rattle.std.proofs.Common.{◌≤◌, ◌∙◌, sym, arith, rules}
 use Rattle.index_server.proofs.Serving.{serves_rested, serves_more}
 use Rattle.index_server.proofs.alone.serve_alone.Goals as goal
 
@@ -37,6 +37,13 @@ loop-preserved g c =
       most = omega (arith, now.most, c.accept.ensures.closings);
       faults = omega (arith, now.faults, cause);
     }
+
+-- both ends are still those of the connection that was given
+pub close-requires : goal.close-requires
+close-requires g c =
+    let one = c.serve_connection.ensures in
+    let given = c.in-Ok.ensures in
+    one.kept.3 ∙ (given.input ∙ sym (one.kept.4 ∙ given.output))
 
 -- one more was served
 pub loop-preserved-in-Ok : goal.loop-preserved-in-Ok

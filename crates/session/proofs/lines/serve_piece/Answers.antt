@@ -38,6 +38,7 @@ told-init g c = record {
   limit = refl;
   fits = λ history fit. fit;
   faults = omega arith;
+  connection = refl;
   transcript = λ part holds. transcribes_none _ _ _ _ _ _ _ _ _ (λ old history. g.met.O.Ordered.stands_legal _ old history) refl (wrote_none _);
 }
 
@@ -65,6 +66,7 @@ told-preserved g c =
       limit = next.ensures.kept.3 ∙ now.limit;
       fits = λ history fit. next.ensures.fits history (now.fits history fit);
       faults = omega (arith, now.faults, counted);
+      connection = next.ensures.kept.4 ∙ now.connection;
       transcript = λ part holds. transcribes_then _ _ _ _ _ _ _ _ _ _ _ _ _ _ _ _ _ _ _ _ now.fits
           (λ xs ys p q. more_asked (told_lines part (take at piece)) (told_lines (open_part part (take at piece)) (take used slice)) _ (told_more part piece slice at used rest) (now.going part holds) xs ys p q ∙ upto_none _ (going part holds))
           (λ xs ys asked p q. wrote_behind _ _ _ xs ys p q) (now.transcript part holds) (rw (now.lane, now.sole, now.limit, c.in-Ok-false.is) at (next.ensures.served (open_part part (take at piece)) (now.held part holds)));

@@ -21,6 +21,7 @@ invariant-told g l = record {
   limit : g.P.Patience.limit l.patience ≡ g.P.Patience.limit l.fn.patience;
   fits : (history : List Entry) → g.O.Ordered.fits l.fn.store history → g.O.Ordered.fits l.store history;
   faults : g.K.Sink.faults l.fn.sink ≤ g.K.Sink.faults l.sink;
+  connection : g.K.Sink.connection l.sink ≡ g.K.Sink.connection l.fn.sink;
   transcript : (part : List ℕ) → Holds l.fn.lines part → Follows (g.O.Ordered.stands l.fn.store) (g.O.Ordered.stands l.store)
       (Transcribes (g.P.Patience.limit l.fn.patience) (g.O.Ordered.lane l.fn.store) (g.O.Ordered.sole l.fn.store) (g.O.Ordered.fits l.fn.store) (g.O.Ordered.refusals l.fn.store) (g.O.Ordered.refusals l.store) (g.O.Ordered.last l.fn.store) (g.O.Ordered.last l.store)
       (λ asked. asked ≡ asked_by_all (told_lines part (take l.at l.piece))) (WrotePieces (g.K.Sink.written l.fn.sink) (g.K.Sink.written l.sink)));

@@ -22,6 +22,7 @@ parts-init g c = record {
   fits = λ history fit. fit;
   later = omega arith;
   faults = omega arith;
+  connection = refl;
   scan = scans_none _ _ _ _ _ _ _ (λ old history. g.met.O.Ordered.stands_legal _ old history) (wrote_none _);
 }
 
@@ -52,6 +53,7 @@ parts-preserved g c =
       fits = λ history fit. part.fits history (now.fits history fit);
       later = omega (arith, now.later, part.told);
       faults = omega (arith, now.faults, c.in-Ok-write_pairs.ensures.cause);
+      connection = c.in-Ok-write_pairs.ensures.kept ∙ now.connection;
       scan = scans_more _ _ _ _ _ _ _ _ _ _ c.parts.left _ c.part_patiently.new.page.pairs _ _ (λ xs wrote. wrote_more _ _ _ xs _ wrote c.in-Ok-write_pairs.ensures.gained)
           part.above part.within wanted (omega (arith, c.in-Ok-write_pairs.ensures.count)) now.scan (rw (now.lane, now.sole) at part.ok);
     }

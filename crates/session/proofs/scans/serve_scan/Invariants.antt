@@ -22,6 +22,7 @@ invariant-parts g l = record {
   fits : (history : List Entry) → g.O.Ordered.fits l.fn.store history → g.O.Ordered.fits l.store history;
   later : g.O.Ordered.refusals l.fn.store ≤ g.O.Ordered.refusals l.store;
   faults : g.K.Sink.faults l.fn.sink ≤ g.K.Sink.faults l.sink;
+  connection : g.K.Sink.connection l.sink ≡ g.K.Sink.connection l.fn.sink;
   scan : Follows (g.O.Ordered.stands l.fn.store) (g.O.Ordered.stands l.store)
       (Scans (g.O.Ordered.lane l.fn.store) (g.O.Ordered.sole l.fn.store) l.fn.from l.to l.most l.at l.left (Wrote (g.K.Sink.written l.fn.sink) (g.K.Sink.written l.sink)));
 }

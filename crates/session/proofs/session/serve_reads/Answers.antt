@@ -26,6 +26,8 @@ reads-init g c = record {
   fits = λ history fit. fit;
   reads = omega arith;
   writes = omega arith;
+  source = refl;
+  sink = refl;
 }
 
 pub serve_rest-requires : goal.serve_rest-requires
@@ -140,4 +142,6 @@ reads-preserved g c =
       fits = λ h fit. done.fits h (fewer h fit);
       reads = omega (arith, now.reads, got.cause);
       writes = omega (arith, now.writes, done.cause);
+      source = read.kept.3 ∙ now.source;
+      sink = done.kept.4 ∙ now.sink;
     }

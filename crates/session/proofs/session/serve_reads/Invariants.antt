@@ -16,6 +16,8 @@ invariant-reads g l = record {
   fits : (history : List Entry) → g.O.Ordered.fits l.fn.store history → g.O.Ordered.fits l.store history;
   reads : g.S.Source.faults l.fn.source ≤ g.S.Source.faults l.source;
   writes : g.K.Sink.faults l.fn.sink ≤ g.K.Sink.faults l.sink;
+  source : g.S.Source.connection l.source ≡ g.S.Source.connection l.fn.source;
+  sink : g.K.Sink.connection l.sink ≡ g.K.Sink.connection l.fn.sink;
 }
 
 abbrev pub decreases-reads : goal.decreases-reads

@@ -14,3 +14,6 @@ returns-else-n-bytes-clause-gained g c =
 
 pub returns-else-n-bytes-clause-cause : goal.returns-else-n-bytes-clause-cause
 returns-else-n-bytes-clause-cause g c = faults_earlier _ _ _ c.write_rest.result c.in-Ok.ensures.cause c.write_rest.ensures.cause
+
+pub returns-else-n-bytes-clause-kept : goal.returns-else-n-bytes-clause-kept
+returns-else-n-bytes-clause-kept g c = c.write_rest.ensures.kept ∙ c.in-Ok.ensures.connection

@@ -1,4 +1,4 @@
-use Rattle.std.proofs.Common.{◌-◌, ◌≤◌, [], sym, subst, take, drop, length, arith, length-drop, take-append-drop}
+use Rattle.std.proofs.Common.{◌-◌, ◌≤◌, [], ◌∙◌, sym, subst, take, drop, length, arith, length-drop, take-append-drop}
 use Rattle.std.proofs.Math.Seq.{take-add}
 use Rattle.std.proofs.lemmas.List.{take-take, append-nil}
 use Rattle.outside.specs.Writing.{Wrote}
@@ -23,4 +23,5 @@ pieces-preserved g c =
       within = omega arith;
       wrote = subst (Wrote _ _) (sym (take-add at n bytes)) (wrote_more _ _ _ (take at bytes) (take n (drop at bytes)) c.pieces.invariant.wrote more);
       later = omega (arith, c.pieces.invariant.later, c.in-Ok.ensures.cause);
+      connection = c.in-Ok.ensures.connection ∙ c.pieces.invariant.connection;
     }
