@@ -16,6 +16,7 @@ use Rattle.row_words.specs.Decode.{head_at, item_at, anchor_at, IsUsed, IsOf}
 use Rattle.meta_trie.specs.declared.finds.Found.{Found}
 use Rattle.meta_trie.specs.Trie.{Says, Entry, bucket_of, Chain, Stands, Names, Apart, Holds, Looked, last_link, IsFound}
 use Rattle.meta_trie.specs.Stands.{StandsFor, AllApart, MostInBucket}
+use Rattle.meta_trie.specs.Places.{StandsAt}
 use Rattle.meta_trie.proofs.Lists.{all_at, front_more, last_link-push}
 
 -- the item at an entry's place is that of its prefix, and of no other
@@ -24,6 +25,10 @@ of_entry k ws known b e s prefix same = subst (λ (name : List ℕ). IsOf k ws e
 
 entry_of : (k : Shape) (ws : List ℕ) (known : List ℕ → Option Item) (b : ℕ) (e : Entry) → Stands k ws known b e → (prefix : List ℕ) (hash : ℕ) → IsOf k ws e.at prefix hash → e.name ≡ prefix
 entry_of k ws known b e s prefix hash of = sym s.named ∙ ap (λ (n : ℕ). take n (anchor_at k ws (item_at k ws e.at).leftmost)) (sym s.len ∙ of.same_len) ∙ of.same_bytes
+
+-- an entry's item, by its place and its prefix
+stands_at : (k : Shape) (ws : List ℕ) (known : List ℕ → Option Item) (b : ℕ) (e : Entry) → Stands k ws known b e → (prefix : List ℕ) (at : ℕ) → e.at ≡ at → e.name ≡ prefix → StandsAt k ws known prefix at
+stands_at k ws known b e s prefix at place name = subst (λ (z : ℕ × List ℕ). StandsAt k ws known z.1 z.0) (λ i. (place i, name i)) s.said
 
 -- a walk along a bucket that looks for a prefix: what lies behind it and what lies ahead
 pub record Walk (k : Shape) (ws : List ℕ) (known : List ℕ → Option Item) (bucket : List Entry) (prefix : List ℕ) (link before steps most : ℕ) : Type 0 where
@@ -185,3 +190,24 @@ found_looked k ws known h prefix found f =
     let b : ℕ = bucket_of k prefix in
     let s = all_at (Stands k ws known b) f.front _ f.back (subst (AllByRecursion (Stands k ws known b)) f.whole (h.standing b l)) in
     (s.said.0, s.said.1, subst (λ (r : ItemRow). Says r s.said.0) (sym f.row) s.said.2, ap (λ (r : ItemRow). r.len) f.row ∙ s.len)
+
+-- a prefix of which something is known is ahead, so there is a link
+pub walk_goes : (k : Shape) (ws : List ℕ) (known : List ℕ → Option Item) (bucket : List Entry) (prefix : List ℕ) (link before steps most : ℕ) → Walk k ws known bucket prefix link before steps most → (it : Item) → known prefix ≡ Some it → link ≢ 0
+walk_goes k ws known bucket prefix link before steps most w it is = λ none. names_nothing k ws w.rest prefix (subst (λ (n : ℕ). Chain k ws n w.rest) none w.chain) (w.ahead it is)
+
+names_only : (k : Shape) (ws : List ℕ) (name : List ℕ) (e : Entry) (es : List Entry) → Chain k ws 0 es → Names name (e ∷ es) → e.name ≡ name
+names_only k ws name e es chain names = elim names [ inl same ↦ same | inr later ↦ absurd (names_nothing k ws es name chain later) ]
+
+-- and its item is the last one where no other is ahead
+pub walk_last : (k : Shape) (ws : List ℕ) (known : List ℕ → Option Item) (bucket : List Entry) (prefix : List ℕ) (link before steps most : ℕ) → Walk k ws known bucket prefix link before steps most → link ≢ 0 → (item_at k ws (link - 1)).next ≡ 0 → (it : Item) → known prefix ≡ Some it → StandsAt k ws known prefix (link - 1)
+walk_last k ws known bucket prefix link before steps most w some last it is =
+    let f = first k ws known prefix link w.rest w.chain w.standing some in
+    let name = names_only k ws prefix f.e f.es (subst (λ (n : ℕ). Chain k ws n f.es) last f.chain) (subst (Names prefix) f.whole (w.ahead it is)) in
+    stands_at k ws known _ f.e f.stands prefix (link - 1) f.at name
+
+-- the item at a link is that of the prefix
+pub walk_here : (k : Shape) (ws : List ℕ) (known : List ℕ → Option Item) (bucket : List Entry) (prefix : List ℕ) (link before steps most : ℕ) → Walk k ws known bucket prefix link before steps most → link ≢ 0 → (hash : ℕ) → IsOf k ws (link - 1) prefix hash → StandsAt k ws known prefix (link - 1)
+walk_here k ws known bucket prefix link before steps most w some hash of =
+    let f = first k ws known prefix link w.rest w.chain w.standing some in
+    let name = entry_of k ws known _ f.e f.stands prefix hash (subst (λ (i : ℕ). IsOf k ws i prefix hash) (sym f.at) of) in
+    stands_at k ws known _ f.e f.stands prefix (link - 1) f.at name

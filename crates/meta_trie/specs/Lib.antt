@@ -6,3 +6,4 @@ pub mod Fits
 pub mod Shrinks
 pub mod Lags
 pub mod Links
+pub mod Places

@@ -4,12 +4,12 @@ ghost use Rattle.std.specs.Prelude.{◌≡◌, ◌≤◌, ◌==◌, ◌/◌, ◌
 ghost use Rattle.anchor_rules.specs.Items.{greatest_below};
 ghost use Rattle.meta_trie.specs.Trie.{bit_of};
 
-/// Whether a byte is in a bitmap.
+/// Whether a byte is in a bitmap, by the word of it that has the byte's bit.
 #[inline]
-pub(crate) fn has_byte(bits: &[u64; 4], byte: u8) -> bool
-    ensures { result ≡ bit_of bits.now byte }
+pub(crate) fn has_byte(word: u64, byte: u8) -> bool
+    ensures { result ≡ (word / 2 ^ (byte % 64) % 2 == 1) }
 {
-    bits[usize::from(byte / 64)] >> (byte % 64) & 1 == 1
+    word >> (byte % 64) & 1 == 1
 }
 
 /// The lowest n bits of a word.

@@ -45,6 +45,5 @@ pub(crate) fn before_leaf<R: Rows, L: Ledger>(rows: &mut R, leaf: u32, steps: &m
     ensures shape { R.shape rows.new ≡ R.shape rows.old }
     ensures stays { R.stays rows.old rows.new }
 {
-    let row = rows.leaf(leaf, steps);
-    row.previous - 1
+    rows.previous(leaf, steps) - 1
 }

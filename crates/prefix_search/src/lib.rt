@@ -10,7 +10,6 @@ mod leaves;
 mod locates;
 mod longests;
 mod middles;
-mod roots;
 
 pub use answers::{Located, Longest, Sought};
 pub use ends::locate_end;

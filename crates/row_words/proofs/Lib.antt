@@ -1,8 +1,8 @@
 pub mod Digits
 pub mod Packed
 pub mod Beginnings
-pub mod ItemNames
 pub mod Padding
 pub mod Parts
 pub mod Joined
 pub mod ShortWords
+pub mod Anchored

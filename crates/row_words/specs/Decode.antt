@@ -1,5 +1,5 @@
 -- What the words of a table say.
-use Rattle.std.specs.Prelude.{ℕ, ◌≡◌, ◌+◌, ◌-◌, ◌/◌, ◌%◌, ◌<◌, ◌≤◌, ◌==◌, List, [], ◌∷◌, length, slice_index, take}
+use Rattle.std.specs.Prelude.{ℕ, ◌≡◌, ◌≢◌, ◌+◌, ◌-◌, ◌/◌, ◌%◌, ◌<◌, ◌≤◌, ◌==◌, ◌⊎◌, List, [], ◌∷◌, length, slice_index, take}
 use Rattle.row_words.specs.Bytes.{bytes_from}
 use Rattle.row_words.specs.Layout.{head_word, item_word, leaf_word}
 use Rattle.row_words.specs.declared.layout.TheConstants.{LONGEST_ANCHOR, LONGEST_WORD, LINK_PART, SIDES_PART, BITS_PART, BYTES_PART, PREVIOUS_PART, NEXT_PART, UPPER, LENGTHS, ANCHOR_MARK}
@@ -7,6 +7,10 @@ use Rattle.row_words.specs.declared.shape.Shape.{Shape}
 use Rattle.row_words.specs.declared.rows.ItemRow.{ItemRow}
 use Rattle.row_words.specs.declared.rows.Probe.{Probe}
 use Rattle.row_words.specs.declared.rows.Probe.TheVariants.{Same, Other}
+use Rattle.row_words.specs.declared.rows.Glance.{Glance}
+use Rattle.row_words.specs.declared.rows.Glance.TheVariants.{Hit, Miss}
+use Rattle.row_words.specs.declared.rows.ChildProbe.{ChildProbe}
+use Rattle.row_words.specs.declared.rows.ChildProbe.TheVariants.{Found, Further}
 
 -- the length of the longest anchor, by the header
 abbrev pub longest_at : List ℕ → ℕ
@@ -68,3 +72,13 @@ pub record IsOf (k : Shape) (words : List ℕ) (at : ℕ) (prefix : List ℕ) (h
 abbrev pub Probed : Shape → List ℕ → ℕ → List ℕ → ℕ → Probe → Type 0
 Probed k words at prefix hash (Same item) = (item ≡ item_at k words at) × IsOf k words at prefix hash
 Probed k words at prefix hash (Other next) = (next ≡ (item_at k words at).next) × ¬ IsOf k words at prefix hash
+
+-- what a short look at one item answers
+abbrev pub Glanced : Shape → List ℕ → ℕ → List ℕ → ℕ → ℕ → Glance → Type 0
+Glanced k words at prefix hash word (Hit bits) = (bits ≡ slice_index (item_at k words at).bits word) × IsOf k words at prefix hash
+Glanced k words at prefix hash word (Miss next) = (next ≡ (item_at k words at).next) × ¬ IsOf k words at prefix hash
+
+-- what a look at one item answers of a prefix that it or a later item of the bucket is that of
+abbrev pub ChildProbed : Shape → List ℕ → ℕ → List ℕ → ℕ → ChildProbe → Type 0
+ChildProbed k words at prefix hash (Found rightmost) = (rightmost ≡ (item_at k words at).rightmost) × (((item_at k words at).next ≡ 0) ⊎ IsOf k words at prefix hash)
+ChildProbed k words at prefix hash (Further next) = (next ≡ (item_at k words at).next) × (next ≢ 0) × ¬ IsOf k words at prefix hash

@@ -33,3 +33,17 @@ pub fn leaf_words<W: Words, L: Ledger>(words: &mut W, at: u32, steps: &mut Steps
         next: (words.leaf_part(at, NEXT_PART) % UPPER) as u32,
     }
 }
+
+/// The leaf before a live one as number + 1, or 0. It ticks one step.
+#[inline]
+pub fn previous_words<W: Words, L: Ledger>(words: &mut W, at: u32, steps: &mut Steps<L>) -> u32
+    requires live { IsLive (W.shape words.old) (W.words words.old) at }
+    ensures value { result ≡ previous_at (W.shape words.old) (W.words words.old) at }
+    ensures steps { steps.new ≡ steps.old + 1 }
+    ensures words { W.words words.new ≡ W.words words.old }
+    ensures shape { W.shape words.new ≡ W.shape words.old }
+    ensures stays { W.stays words.old words.new }
+{
+    steps.tick();
+    (words.leaf_part(at, PREVIOUS_PART) % UPPER) as u32
+}

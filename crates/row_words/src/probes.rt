@@ -3,7 +3,8 @@
 ghost use Rattle.std.specs.Prelude.{◌≡◌, ◌+◌};
 ghost use Rattle.row_words.specs.Decode.{IsUsed, Probed};
 
-use crate::layout::{ANCHOR_MARK, LENGTHS, MARK_PART, UPPER};
+use crate::anchor_starts::anchor_begins;
+use crate::layout::{ANCHOR_MARK, LENGTHS, UPPER};
 use crate::{ItemRow, Probe, Words};
 use std::sync::ledger::Ledger;
 use steps::Steps;
@@ -32,11 +33,7 @@ pub fn probe_words<W: Words, L: Ledger>(
     if found != hash || len as usize != prefix.len() {
         return Probe::Other { next };
     }
-    let mark = words.leaf_part(leftmost, MARK_PART);
-    if len as u64 > mark - 1 {
-        return Probe::Other { next };
-    }
-    if !words.leaf_begins(leftmost, prefix) {
+    if !anchor_begins(words, leftmost, prefix) {
         return Probe::Other { next };
     }
     Probe::Same(ItemRow {

@@ -1,9 +1,9 @@
 //! What may read and write the rows of a table.
 
-ghost use Rattle.std.specs.Prelude.{◌≡◌, ◌<◌, ◌+◌, ◌%◌, length, slice_index, slice_set};
+ghost use Rattle.std.specs.Prelude.{◌≡◌, ◌<◌, ◌+◌, ◌%◌, [], ◌∷◌, ◌++◌, length, slice_index, slice_set};
 ghost use Rattle.row_words.specs.Layout.{word_count};
 ghost use Rattle.row_words.specs.Shape.{IsShape};
-ghost use Rattle.row_words.specs.Decode.{longest_at, head_at, IsUsed, IsLive, Probed, anchor_at, previous_at, next_at};
+ghost use Rattle.row_words.specs.Decode.{longest_at, head_at, item_at, IsUsed, IsLive, Probed, Glanced, ChildProbed, anchor_at, previous_at, next_at};
 
 use crate::{AnchorWords, Shape};
 use std::sync::ledger::Ledger;
@@ -43,6 +43,25 @@ pub enum Probe {
     Same(ItemRow),
     /// It isn't; `next` is the next item of the bucket as place + 1, or 0.
     Other { next: u32 },
+}
+
+/// What a short look at one item tells of a prefix.
+#[derive(Debug, Clone, Copy)]
+pub enum Glance {
+    /// The item is that of the prefix; `bits` is the asked word of those that say which bytes may follow.
+    Hit { bits: u64 },
+    /// It isn't; `next` is the next item of the bucket as place + 1, or 0.
+    Miss { next: u32 },
+}
+
+/// What a look at one item tells of a child of a prefix, where it or a later one of the bucket is that of
+/// the child.
+#[derive(Debug, Clone, Copy)]
+pub enum ChildProbe {
+    /// The item is that of the child; `rightmost` is the leaf of the last anchor that begins so.
+    Found { rightmost: u32 },
+    /// It isn't; `next` is the next item of the bucket as place + 1.
+    Further { next: u32 },
 }
 
 /// All that a reader of a table has. No call changes a word, and a row is read only by a call that
@@ -93,12 +112,65 @@ pub trait Rows {
         ensures shape { shape self.new ≡ shape self.old }
         ensures stays { stays self.old self.new };
 
+    /// As [`Rows::probe`], but of the item no more is told than this word of its bits. It ticks one step.
+    fn glance<L: Ledger>(
+        &mut self,
+        at: u32,
+        prefix: &[u8],
+        hash: u64,
+        word: u32,
+        steps: &mut Steps<L>,
+    ) -> Glance
+        requires used { IsUsed (shape self.old) (words self.old) at }
+        requires word { word < 4 }
+        ensures value { Glanced (shape self.old) (words self.old) at prefix.now hash word result }
+        ensures steps { steps.new ≡ steps.old + 1 }
+        ensures words { words self.new ≡ words self.old }
+        ensures shape { shape self.new ≡ shape self.old }
+        ensures stays { stays self.old self.new };
+
+    /// Whether the item at a place is that of this prefix and one byte more, whose hash is given, or the
+    /// last one of its bucket. Who knows that the child has an item, there or later in the bucket, needs
+    /// no look at the bytes of the last one. It ticks one step.
+    fn probe_child<L: Ledger>(
+        &mut self,
+        at: u32,
+        prefix: &[u8],
+        byte: u8,
+        hash: u64,
+        steps: &mut Steps<L>,
+    ) -> ChildProbe
+        requires { IsUsed (shape self.old) (words self.old) at }
+        ensures value { ChildProbed (shape self.old) (words self.old) at (prefix.now ++ byte ∷ []) hash result }
+        ensures steps { steps.new ≡ steps.old + 1 }
+        ensures words { words self.new ≡ words self.old }
+        ensures shape { shape self.new ≡ shape self.old }
+        ensures stays { stays self.old self.new };
+
+    /// The item at a place. It ticks one step.
+    fn item<L: Ledger>(&mut self, at: u32, steps: &mut Steps<L>) -> ItemRow
+        requires { at < (shape self.old).items }
+        ensures value { result ≡ item_at (shape self.old) (words self.old) at }
+        ensures steps { steps.new ≡ steps.old + 1 }
+        ensures words { words self.new ≡ words self.old }
+        ensures shape { shape self.new ≡ shape self.old }
+        ensures stays { stays self.old self.new };
+
     /// The row of a live leaf. It ticks one step.
     fn leaf<L: Ledger>(&mut self, at: u32, steps: &mut Steps<L>) -> LeafRow
         requires { IsLive (shape self.old) (words self.old) at }
         ensures anchor { result.anchor ≡ anchor_at (shape self.old) (words self.old) at }
         ensures previous { result.previous ≡ previous_at (shape self.old) (words self.old) at }
         ensures next { result.next ≡ next_at (shape self.old) (words self.old) at }
+        ensures steps { steps.new ≡ steps.old + 1 }
+        ensures words { words self.new ≡ words self.old }
+        ensures shape { shape self.new ≡ shape self.old }
+        ensures stays { stays self.old self.new };
+
+    /// The leaf before a live one as number + 1, or 0. No more of its row is read. It ticks one step.
+    fn previous<L: Ledger>(&mut self, at: u32, steps: &mut Steps<L>) -> u32
+        requires { IsLive (shape self.old) (words self.old) at }
+        ensures value { result ≡ previous_at (shape self.old) (words self.old) at }
         ensures steps { steps.new ≡ steps.old + 1 }
         ensures words { words self.new ≡ words self.old }
         ensures shape { shape self.new ≡ shape self.old }

@@ -12,7 +12,8 @@ use crate::layout::{
 use crate::padded_words::PaddedWords;
 use crate::words::words_begin;
 use crate::{
-    LeafParts, LeafRow, Probe, Rows, RowsMut, Shape, Words, begins, leaf_words, probe_words,
+    ChildProbe, Glance, ItemRow, LeafParts, LeafRow, Probe, Rows, RowsMut, Shape, Words, begins,
+    child_words, glance_words, item_words, leaf_words, previous_words, probe_words,
 };
 use std::alloc::{AllocError, Global};
 use std::sync::ledger::Ledger;
@@ -89,6 +90,10 @@ impl Words for VecRows {
         self.items.three((ITEM_WORDS * at) as usize)
     }
 
+    fn item_part(&mut self, at: u32, word: u32) -> u64 {
+        self.items.get((ITEM_WORDS * at + word) as usize)
+    }
+
     fn item_bits(&mut self, at: u32) -> [u64; 4] {
         self.items.four((ITEM_WORDS * at + BITS_PART) as usize)
     }
@@ -149,8 +154,38 @@ impl Rows for VecRows {
         probe_words(self, at, prefix, hash, steps)
     }
 
+    fn glance<L: Ledger>(
+        &mut self,
+        at: u32,
+        prefix: &[u8],
+        hash: u64,
+        word: u32,
+        steps: &mut Steps<L>,
+    ) -> Glance {
+        glance_words(self, at, prefix, hash, word, steps)
+    }
+
+    fn probe_child<L: Ledger>(
+        &mut self,
+        at: u32,
+        prefix: &[u8],
+        byte: u8,
+        hash: u64,
+        steps: &mut Steps<L>,
+    ) -> ChildProbe {
+        child_words(self, at, prefix, byte, hash, steps)
+    }
+
+    fn item<L: Ledger>(&mut self, at: u32, steps: &mut Steps<L>) -> ItemRow {
+        item_words(self, at, steps)
+    }
+
     fn leaf<L: Ledger>(&mut self, at: u32, steps: &mut Steps<L>) -> LeafRow {
         leaf_words(self, at, steps)
+    }
+
+    fn previous<L: Ledger>(&mut self, at: u32, steps: &mut Steps<L>) -> u32 {
+        previous_words(self, at, steps)
     }
 }
 

@@ -5,7 +5,9 @@ ghost use Rattle.row_words.specs.Bytes.{bytes_from};
 ghost use Rattle.row_words.specs.Layout.{leaf_word};
 
 use crate::anchor_words::{whole_four, whole_word};
-use crate::layout::{BYTES_PART, LEAF_WORDS, LINK_PART, LONGEST_ANCHOR, SIDES_PART, UPPER};
+use crate::layout::{
+    BYTES_PART, ITEM_WORDS, LEAF_WORDS, LINK_PART, LONGEST_ANCHOR, SIDES_PART, UPPER,
+};
 
 /// Leaf rows whose words can be read. No call changes a word, and each tells what `stays`.
 ///
@@ -56,6 +58,15 @@ pub trait Words: LeafParts {
     fn item_head(&mut self, at: u32) -> [u64; 3]
         requires { at < (Self.shape self.old).items }
         ensures value { result ≡ slice_index (Self.words self.old) (item_word (Self.shape self.old) at) ∷ slice_index (Self.words self.old) (item_word (Self.shape self.old) at + LINK_PART) ∷ slice_index (Self.words self.old) (item_word (Self.shape self.old) at + SIDES_PART) ∷ [] }
+        ensures words { Self.words self.new ≡ Self.words self.old }
+        ensures shape { Self.shape self.new ≡ Self.shape self.old }
+        ensures stays { Self.stays self.old self.new };
+
+    /// A word of the item at a place.
+    fn item_part(&mut self, at: u32, word: u32) -> u64
+        requires at { at < (Self.shape self.old).items }
+        requires word { word < ITEM_WORDS }
+        ensures value { result ≡ slice_index (Self.words self.old) (item_word (Self.shape self.old) at + word) }
         ensures words { Self.words self.new ≡ Self.words self.old }
         ensures shape { Self.shape self.new ≡ Self.shape self.old }
         ensures stays { Self.stays self.old self.new };

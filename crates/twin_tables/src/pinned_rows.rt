@@ -10,7 +10,10 @@ ghost use Rattle.twin_tables.specs.Lent.{pinned_view, pinned_shape, pinned_words
 use crate::pinned::Pinned;
 use board_rule::{Pass, read, unpin};
 use row_words::layout::HEADER_WORDS;
-use row_words::{LeafParts, LeafRow, Probe, Rows, Words, begins, leaf_words, probe_words};
+use row_words::{
+    ChildProbe, Glance, ItemRow, LeafParts, LeafRow, Probe, Rows, Words, begins, child_words,
+    glance_words, item_words, leaf_words, previous_words, probe_words,
+};
 use std::sync::ledger::Ledger;
 use steps::Steps;
 
@@ -95,6 +98,11 @@ impl<'a> Words for Pinned<'a> {
         [hash, link, sides]
     }
 
+    fn item_part(&mut self, at: u32, word: u32) -> u64 {
+        let first = self.board.shape().item_word(at);
+        self.load(first + word)
+    }
+
     fn item_bits(&mut self, at: u32) -> [u64; 4] {
         let first = self.board.shape().item_word(at) + 3;
         let a = self.load(first);
@@ -153,7 +161,37 @@ impl<'a> Rows for Pinned<'a> {
         probe_words(self, at, prefix, hash, steps)
     }
 
+    fn glance<L: Ledger>(
+        &mut self,
+        at: u32,
+        prefix: &[u8],
+        hash: u64,
+        word: u32,
+        steps: &mut Steps<L>,
+    ) -> Glance {
+        glance_words(self, at, prefix, hash, word, steps)
+    }
+
+    fn probe_child<L: Ledger>(
+        &mut self,
+        at: u32,
+        prefix: &[u8],
+        byte: u8,
+        hash: u64,
+        steps: &mut Steps<L>,
+    ) -> ChildProbe {
+        child_words(self, at, prefix, byte, hash, steps)
+    }
+
+    fn item<L: Ledger>(&mut self, at: u32, steps: &mut Steps<L>) -> ItemRow {
+        item_words(self, at, steps)
+    }
+
     fn leaf<L: Ledger>(&mut self, at: u32, steps: &mut Steps<L>) -> LeafRow {
         leaf_words(self, at, steps)
+    }
+
+    fn previous<L: Ledger>(&mut self, at: u32, steps: &mut Steps<L>) -> u32 {
+        previous_words(self, at, steps)
     }
 }

@@ -2,6 +2,7 @@ use Rattle.std.proofs.Common.{◌≡◌, ◌≤◌, ◌<◌, ◌+◌, ◌-◌, �
 use Rattle.key_bytes.specs.Fnv.{prefix_hash}
 use Rattle.anchor_rules.specs.Anchors.{Anchors}
 use Rattle.anchor_rules.specs.Items.{item}
+use Rattle.row_words.specs.Decode.{item_at}
 use Rattle.meta_trie.specs.Stands.{StandsFor, MostInBucket}
 use Rattle.prefix_search.specs.Search.{Tells, length_digits}
 use Rattle.prefix_search.proofs.Digits.{Left}
@@ -15,7 +16,8 @@ invariant-loop-low g l = record {
   low_high : l.low ≤ l.high;
   high_key : l.high ≤ length l.key;
   hash : l.hash ≡ prefix_hash (g.R.Rows.shape l.fn.rows).salt (take l.low l.key);
-  known : 0 < l.low → (A : Anchors) → StandsFor (g.R.Rows.shape l.fn.rows) (g.R.Rows.words l.fn.rows) A → Tells A (take l.low l.key) l.item;
+  used : l.at < (g.R.Rows.shape l.fn.rows).items;
+  known : (A : Anchors) → StandsFor (g.R.Rows.shape l.fn.rows) (g.R.Rows.words l.fn.rows) A → Tells A (take l.low l.key) (item_at (g.R.Rows.shape l.fn.rows) (g.R.Rows.words l.fn.rows) l.at);
   longest : (A : Anchors) → StandsFor (g.R.Rows.shape l.fn.rows) (g.R.Rows.words l.fn.rows) A → (m : ℕ) → l.high < m → m ≤ length l.key → item A (take m l.key) ≡ None;
   cost : (A : Anchors) → StandsFor (g.R.Rows.shape l.fn.rows) (g.R.Rows.words l.fn.rows) A → (c : ℕ) → MostInBucket (g.R.Rows.shape l.fn.rows) A c → Left (l.high - l.low) l.steps (l.fn.steps + length_digits A l.key * c) c;
 }
