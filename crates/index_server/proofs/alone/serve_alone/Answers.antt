@@ -38,13 +38,6 @@ loop-preserved g c =
       faults = omega (arith, now.faults, cause);
     }
 
--- both ends are still those of the connection that was given
-pub close-requires : goal.close-requires
-close-requires g c =
-    let one = c.serve_connection.ensures in
-    let given = c.in-Ok.ensures in
-    one.kept.3 ∙ (given.input ∙ sym (one.kept.4 ∙ given.output))
-
 -- one more was served
 pub loop-preserved-in-Ok : goal.loop-preserved-in-Ok
 loop-preserved-in-Ok g c =
