@@ -11,30 +11,8 @@ use outside::{Sink, Stop};
 use std::alloc::AllocError;
 
 /// Writes all bytes, by as many writes as the sink takes them in, or some first ones where it stops.
-#[inline(always)]
+#[inline]
 pub fn write_all<K: Sink>(sink: &mut K, bytes: &[u8]) -> Result<(), Stop>
-    ensures gained { Gained result (K.written sink.old) (K.written sink.new) bytes.now }
-    ensures cause { FaultsCounted (K.faults sink.old) (K.faults sink.new) result }
-    ensures kept { K.connection sink.new ≡ K.connection sink.old }
-{
-    if bytes.is_empty() {
-        return Ok(());
-    }
-    match sink.write(bytes) {
-        Ok(n) => {
-            if n == bytes.len() {
-                return Ok(());
-            }
-            write_rest(sink, &bytes[n..])
-        }
-        Err(stop) => Err(stop),
-    }
-}
-
-/// The same of what one write left. It stays a call, since most lines are written at once.
-#[cold]
-#[inline(never)]
-fn write_rest<K: Sink>(sink: &mut K, bytes: &[u8]) -> Result<(), Stop>
     ensures gained { Gained result (K.written sink.old) (K.written sink.new) bytes.now }
     ensures cause { FaultsCounted (K.faults sink.old) (K.faults sink.new) result }
     ensures kept { K.connection sink.new ≡ K.connection sink.old }

@@ -100,7 +100,6 @@ impl<W: Write> Sink for StdSink<'_, W> {
 
     ghost connection = { λ s. 0 };
 
-    #[inline(always)]
     fn write(&mut self, bytes: &[u8]) -> Result<usize, Stop> {
         // What a cell holds is in no contract: that the bytes are collected is the promise of `put` alone.
         match self.outgoing.try_borrow_mut() {

@@ -49,7 +49,6 @@ impl<W: Write> Outgoing<W> {
 
     /// Collects some first bytes, and answers how many: at least one, where there is one. A full buffer is handed
     /// on first.
-    #[inline(always)]
     pub fn write(&mut self, bytes: &[u8]) -> Result<usize, Stop>
         ensures bound { WritesAtMost result bytes.now }
         ensures some { IfOk result (λ n. 0 < length bytes.now → 0 < n) }
@@ -65,7 +64,6 @@ impl<W: Write> Outgoing<W> {
     }
 
     /// Collects as `write` does, and raises the count of faults where the writer has failed.
-    #[inline(always)]
     pub fn put(&mut self, bytes: &[u8], faults: &mut u64) -> Result<usize, Stop>
         ensures bound { WritesAtMost result bytes.now }
         ensures some { IfOk result (λ n. 0 < length bytes.now → 0 < n) }
@@ -84,7 +82,6 @@ impl<W: Write> Outgoing<W> {
     }
 
     /// Says whether there is room in the buffer, which is handed on where it is full.
-    #[inline(always)]
     fn make_room(&mut self) -> bool
         ensures passed { Keeps (passed W.contents self.old) (passed W.contents self.new) }
         ensures room { OnTrue result (used self.new < BUFFER) }
@@ -100,7 +97,6 @@ impl<W: Write> Outgoing<W> {
     }
 
     /// Takes as many of the bytes as there is room for.
-    #[inline(always)]
     fn collect(&mut self, bytes: &[u8]) -> Result<usize, Stop>
         requires { used self.old < BUFFER }
         ensures bound { WritesAtMost result bytes.now }
@@ -109,22 +105,14 @@ impl<W: Write> Outgoing<W> {
         ensures never { result ≢ Err Stop.Failed }
         ensures kept { is_broken self.new ≡ is_broken self.old }
     {
-        let room = BUFFER - self.bytes.len();
-        // Nearly always there is room for all, and then a line of known length is copied by that length.
-        if bytes.len() <= room {
-            return match self.bytes.extend_from_slice(bytes) {
-                Ok(()) => Ok(bytes.len()),
-                Err(_) => Err(Stop::NoMemory),
-            };
-        }
-        match self.bytes.extend_from_slice(&bytes[..room]) {
-            Ok(()) => Ok(room),
+        let n = bytes.len().min(BUFFER - self.bytes.len());
+        match self.bytes.extend_from_slice(&bytes[..n]) {
+            Ok(()) => Ok(n),
             Err(_) => Err(Stop::NoMemory),
         }
     }
 
     /// Hands on all that waits, and says whether the writer took it. A writer that fails breaks the way for good.
-    #[inline(never)]
     pub fn hand_on(&mut self) -> bool
         ensures passed { Keeps (passed W.contents self.old) (passed W.contents self.new) }
         ensures all { OnTrue result (waiting self.new ≡ []) }

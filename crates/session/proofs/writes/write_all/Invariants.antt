@@ -1,6 +1,6 @@
 use Rattle.std.proofs.Common.{◌≡◌, ◌≤◌, ◌-◌, length, take}
 use Rattle.outside.specs.Writing.{Wrote}
-use Rattle.session.proofs.writes.write_rest.Given as goal
+use Rattle.session.proofs.writes.write_all.Given as goal
 
 abbrev pub invariant-pieces : goal.invariant-pieces
 invariant-pieces g l = record {
