@@ -1,9 +1,9 @@
 -- How the pairs of a page are cut out of its bytes.
 use Rattle.std.proofs.Common.{◌≡◌, ℕ, zero, suc, ◌+◌, ◌-◌, ◌<◌, ◌≤◌, List, [], ◌∷◌, ◌++◌, refl, sym, subst, ap, ◌∙◌, arith, length, get_or, take, drop, slice_range, length-append, length-drop, length-take, append_assoc}
-use Rattle.std.proofs.lemmas.List.{take-append-le, drop-append-le, take-append-drop, take_all, take_at}
-use Rattle.std.proofs.Math.Seq.{drop-append_seam}
+use Rattle.std.proofs.lemmas.List.{drop-drop, take-append-le, drop-append-le, take-append-drop, take_all, take_at}
+use Rattle.std.proofs.Math.Seq.{drop-append_seam, take-add}
 use Rattle.map_model.specs.Maps.{Pairs}
-use Rattle.map_model.specs.Pages.{cut, AreEnds, start_at}
+use Rattle.map_model.specs.Pages.{cut, joined, AreEnds, start_at}
 
 pub length-cut : (bytes : List ℕ) (from : ℕ) (ends : List (ℕ × ℕ)) → length (cut bytes from ends) ≡ length ends
 length-cut bytes from [] = refl
@@ -28,6 +28,40 @@ pub ends-at : (from : ℕ) (ends : List (ℕ × ℕ)) (len i : ℕ) (e : ℕ × 
 ends-at from [] len i e are lt = absurd (omega arith)
 ends-at from (end ∷ ends) len zero e are lt = (are.0, are.1, are.2)
 ends-at from (end ∷ ends) len (suc i) e are lt = ends-at end.1 ends len i e are.3 (omega arith)
+
+-- the end of some first pairs lies in the bytes
+pub start_at-le : (from : ℕ) (ends : List (ℕ × ℕ)) (len n : ℕ) → AreEnds from ends len → n ≤ length ends → (from ≤ start_at from ends n) × (start_at from ends n ≤ len)
+start_at-le from [] len zero are le = (omega arith, omega (arith, are))
+start_at-le from [] len (suc n) are le = absurd (omega arith)
+start_at-le from (end ∷ ends) len zero are le = (omega arith, omega (arith, are.0, are.1, are.2))
+start_at-le from (end ∷ ends) len (suc n) are le =
+    let rest = start_at-le end.1 ends len n are.3 (omega arith) in
+    (omega (arith, are.0, are.1, rest.0), rest.1)
+
+nothing : (n : ℕ) → 0 ≡ n - n
+nothing n = omega arith
+
+-- two cuts that meet
+range_join : (bytes : List ℕ) (a b c : ℕ) → a ≤ b → b ≤ c → slice_range bytes a b ++ slice_range bytes b c ≡ slice_range bytes a c
+range_join bytes a b c le le' =
+    let whole : (b - a) + (c - b) ≡ c - a = omega arith in
+    let there : a + (b - a) ≡ b = omega arith in
+    ap (λ n. take (b - a) (drop a bytes) ++ take (c - b) (drop n bytes)) (sym there)
+    ∙ ap (λ (zs : List ℕ). take (b - a) (drop a bytes) ++ take (c - b) zs) (sym (drop-drop (b - a) a bytes))
+    ∙ sym (take-add (b - a) (c - b) (drop a bytes))
+    ∙ ap (λ n. take n (drop a bytes)) whole
+
+-- the bytes of some first pairs
+pub joined-cut : (bytes : List ℕ) (from : ℕ) (ends : List (ℕ × ℕ)) (len n : ℕ) → AreEnds from ends len → n ≤ length ends → joined (take n (cut bytes from ends)) ≡ slice_range bytes from (start_at from ends n)
+joined-cut bytes from [] len zero are le = ap (λ k. take k (drop from bytes)) (nothing from)
+joined-cut bytes from [] len (suc n) are le = absurd (omega arith)
+joined-cut bytes from (end ∷ ends) len zero are le = ap (λ k. take k (drop from bytes)) (nothing from)
+joined-cut bytes from (end ∷ ends) len (suc n) are le =
+    let upto = start_at end.1 ends n in
+    let rest = start_at-le end.1 ends len n are.3 (omega arith) in
+    ap (λ (zs : List ℕ). (slice_range bytes from end.0 ++ slice_range bytes end.0 end.1) ++ zs) (joined-cut bytes end.1 ends len n are.3 (omega arith))
+    ∙ ap (λ (zs : List ℕ). zs ++ slice_range bytes end.1 upto) (range_join bytes from end.0 end.1 are.0 are.1)
+    ∙ range_join bytes from end.1 upto (omega (arith, are.0, are.1)) rest.0
 
 -- a cut of the front of some bytes
 range_front : (xs ys : List ℕ) (a b : ℕ) → a ≤ b → b ≤ length xs → slice_range (xs ++ ys) a b ≡ slice_range xs a b

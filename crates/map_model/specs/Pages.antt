@@ -1,5 +1,6 @@
 -- A page of pairs, which lie one behind another in one list of bytes.
-use Rattle.std.specs.Prelude.{◌≡◌, ◌≤◌, ℕ, zero, suc, List, [], ◌∷◌, slice_range}
+use Rattle.std.specs.Prelude.{◌≡◌, ◌≤◌, ℕ, zero, suc, List, [], ◌∷◌, ◌++◌, slice_range}
+use Rattle.std.specs.List.{flat_map}
 use Rattle.map_model.specs.Maps.{Pairs}
 
 -- the pairs, and how many more, and of how many bytes, there is room for
@@ -28,3 +29,11 @@ abbrev pub start_at : ℕ → List (ℕ × ℕ) → ℕ → ℕ
 start_at from ends zero = from
 start_at from [] (suc i) = from
 start_at from (end ∷ ends) (suc i) = start_at end.1 ends i
+
+-- a key, and behind it its value
+abbrev pub pair_bytes : List ℕ × List ℕ → List ℕ
+pair_bytes pair = pair.0 ++ pair.1
+
+-- the bytes of the pairs, one pair behind another
+abbrev pub joined : Pairs (List ℕ) → List ℕ
+joined pairs = flat_map pair_bytes pairs

@@ -1,6 +1,6 @@
 //! The pairs of a part.
 ghost use Rattle.std.specs.Prelude.{◌≡◌, ℕ, ◌≤◌, ◌<◌, ◌+◌, ◌-◌, ◌⊎◌, [], ◌∷◌, ◌++◌, length, take, drop, slice_index_or, slice_range, OnOk, OnErr};
-ghost use Rattle.map_model.specs.Pages.{HasNoLessRoom, cut, AreEnds, start_at};
+ghost use Rattle.map_model.specs.Pages.{HasNoLessRoom, cut, joined, AreEnds, start_at};
 
 use key_bytes::copy_few;
 use std::alloc::{AllocError, Global};
@@ -68,6 +68,14 @@ impl Page {
         ensures { result.now ≡ (slice_index_or self.now.pairs i ([], [])).1 }
     {
         pair_at(&self.bytes, &self.ends, i).1
+    }
+
+    /// The bytes of the first pairs, one behind another: each key, and behind it its value.
+    pub fn front(&self, count: usize) -> &[u8]
+        requires { count ≤ length self.now.pairs }
+        ensures { result.now ≡ joined (take count self.now.pairs) }
+    {
+        &self.bytes[..start_of(&self.ends, count)]
     }
 
     /// Makes room for so many more pairs, and for so many more bytes of keys and values together. It
@@ -174,9 +182,9 @@ fn places_of(bytes: &[u8], ends: &[(usize, usize)], i: usize) -> (usize, usize, 
     (start_of(ends, i), middle, end)
 }
 
-// Where a pair begins.
+// Where a pair begins, or, behind the last one, where that ends.
 fn start_of(ends: &[(usize, usize)], i: usize) -> usize
-    requires { i < length ends.now }
+    requires { i ≤ length ends.now }
     ensures { result ≡ start_at 0 ends.now i }
 {
     if i == 0 { 0 } else { ends[i - 1].1 }
