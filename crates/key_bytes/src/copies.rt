@@ -9,27 +9,30 @@ pub fn copy_few(into: &mut [u8], bytes: &[u8])
     ensures { into.new ≡ bytes.now }
 {
     let count = bytes.len();
-    if count < 4 || count > 64 {
-        into.copy_from_slice(bytes);
-    } else if count < 8 {
-        copy_ends::<4>(into, bytes);
-    } else if count < 16 {
-        copy_ends::<8>(into, bytes);
-    } else if count <= 32 {
+    if count >= 16 && count <= 32 {
         copy_ends::<16>(into, bytes);
-    } else {
+    } else if count > 32 && count <= 64 {
         copy_ends::<32>(into, bytes);
+    } else if count >= 8 && count < 16 {
+        copy_ends::<8>(into, bytes);
+    } else if count >= 4 && count < 8 {
+        copy_ends::<4>(into, bytes);
+    } else {
+        into.copy_from_slice(bytes);
     }
 }
 
-// Copies the first `N` bytes and then the last `N`, which meet them or overlap them.
+// Copies the first `N` bytes and the last `N`, which meet or overlap. Both are read before either is
+// written, so that they go through registers.
+#[inline]
 fn copy_ends<const N: usize>(into: &mut [u8], bytes: &[u8])
     requires same { length into.old ≡ length bytes.now }
     requires least { N ≤ length bytes.now }
     requires most { length bytes.now ≤ 2 * N }
     ensures { into.new ≡ bytes.now }
 {
-    let rest = bytes.len() - N;
-    into[..N].copy_from_slice(&bytes[..N]);
-    into[rest..rest + N].copy_from_slice(&bytes[rest..rest + N]);
+    let first = *bytes.first_chunk::<N>().unwrap();
+    let last = *bytes.last_chunk::<N>().unwrap();
+    *into.first_chunk_mut::<N>().unwrap() = first;
+    *into.last_chunk_mut::<N>().unwrap() = last;
 }
