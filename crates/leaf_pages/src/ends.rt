@@ -5,6 +5,7 @@ ghost use Rattle.leaf_spans.specs.Ends.{lesser, end_bound};
 
 use key_bytes::{Bound, Key};
 use row_words::AnchorWords;
+use row_words::layout::ANCHOR_BYTES;
 use std::alloc::{AllocError, Global};
 use std::cmp::Ordering;
 
@@ -12,15 +13,17 @@ use std::cmp::Ordering;
 fn anchor_key(alloc: Global, anchor: &AnchorWords) -> Result<Key, AllocError>
     ensures { IfOk result (λ key. key ≡ anchor.now) }
 {
-    let bytes = anchor.to_vec(alloc)?;
+    let mut bytes = [0; ANCHOR_BYTES];
+    anchor.unpack(&mut bytes);
     // Only memory can be wanting, since these are 1 to 255 bytes.
-    match Key::new(alloc, &bytes) {
+    match Key::new(alloc, &bytes[..anchor.len()]) {
         Ok(key) => Ok(key),
         Err(_) => Err(AllocError),
     }
 }
 
-/// The lower one of an end and of an anchor, if there is one. It takes the memory of a key.
+/// The lower one of an end and of an anchor, if there is one. It takes memory only for a
+/// key that doesn't lie in its value.
 pub fn lower_end(alloc: Global, next: Option<AnchorWords>, to: &Bound) -> Result<Bound, AllocError>
     ensures { IfOk result (λ end. end ≡ lesser (end_bound next) to.now) }
 {

@@ -1,8 +1,8 @@
 //! Bytes of anchors, packed into words.
 
-ghost use Rattle.std.specs.Prelude.{◌≡◌, ◌<◌, ◌≤◌, ◌+◌, ◌*◌, ◌/◌, ◌%◌, ◌^◌, ◌==◌, ℕ, length, slice_index, IfOk};
+ghost use Rattle.std.specs.Prelude.{◌≡◌, ◌<◌, ◌≤◌, ◌+◌, ◌*◌, ◌/◌, ◌%◌, ◌^◌, ◌==◌, ℕ, length, slice_index, take, IfOk};
 
-use crate::layout::{ANCHOR_WORDS, LONGEST_ANCHOR, UPPER};
+use crate::layout::{ANCHOR_BYTES, ANCHOR_WORDS, LONGEST_ANCHOR, UPPER};
 use std::alloc::{AllocError, Global};
 use std::marker::Model;
 
@@ -64,15 +64,24 @@ impl AnchorWords {
         ((self.words[i / 8] >> (8 * (i % 8))) & 0xff) as u8
     }
 
+    /// Writes the bytes to the front of these, a word at a time. The rest of the last word is written too, and no
+    /// byte behind it.
+    pub fn unpack(&self, into: &mut [u8; ANCHOR_BYTES])
+        ensures bytes { take (length self.now) into.new ≡ self.now }
+        ensures fits { length self.now < LONGEST_ANCHOR + 1 }
+    {
+        for i in 0..(self.len as usize + 7) / 8 {
+            into[8 * i..8 * i + 8].copy_from_slice(&self.words[i].to_le_bytes());
+        }
+    }
+
     /// A copy of the bytes.
     pub fn to_vec(&self, alloc: Global) -> Result<Vec<u8>, AllocError>
         ensures { IfOk result (λ bytes. bytes.items ≡ self.now) }
     {
-        let mut bytes = Vec::with_capacity(alloc, self.len())?;
-        for i in 0..self.len() {
-            bytes.push(self.byte(i))?;
-        }
-        Ok(bytes)
+        let mut bytes = [0; ANCHOR_BYTES];
+        self.unpack(&mut bytes);
+        Vec::from_slice(alloc, &bytes[..self.len()])
     }
 }
 

@@ -5,6 +5,8 @@
 pub const LONGEST_ANCHOR: usize = 255;
 /// How many words the bytes of an anchor have room in, eight bytes in a word.
 pub const ANCHOR_WORDS: usize = (LONGEST_ANCHOR + 7) / 8;
+/// How many bytes those words have.
+pub const ANCHOR_BYTES: usize = 8 * ANCHOR_WORDS;
 
 /// How many words the header has.
 pub const HEADER_WORDS: u32 = 4;
