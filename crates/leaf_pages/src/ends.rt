@@ -22,8 +22,8 @@ fn anchor_key(alloc: Global, anchor: &AnchorWords) -> Result<Key, AllocError>
     }
 }
 
-/// The lower one of an end and of an anchor, if there is one. It takes memory only for a
-/// key that doesn't lie in its value.
+/// The lower one of an end and of an anchor, if there is one. It takes memory only where the key at that end
+/// has more than 48 bytes.
 pub fn lower_end(alloc: Global, next: Option<AnchorWords>, to: &Bound) -> Result<Bound, AllocError>
     ensures { IfOk result (λ end. end ≡ lesser (end_bound next) to.now) }
 {
