@@ -18,6 +18,8 @@ pub struct Page {
     used: usize,
     // The end of each key, and that of its value.
     ends: Vec<(usize, usize)>,
+    // How many pairs whoever gave the page still wants: a hint, of which no contract speaks.
+    wanted: usize,
 }
 
 impl Model for Page {
@@ -44,7 +46,22 @@ impl Page {
             bytes: Vec::new(alloc),
             used: 0,
             ends: Vec::new(alloc),
+            wanted: usize::MAX,
         }
+    }
+
+    /// Says how many pairs are still wanted by whoever gives the page. A store may end a part behind so
+    /// many pairs, or go on. A new page wants all.
+    pub fn want(&mut self, pairs: usize)
+        ensures pairs { self.new.pairs ≡ self.old.pairs }
+        ensures room { HasNoLessRoom self.old self.new }
+    {
+        self.wanted = pairs;
+    }
+
+    /// How many pairs are still wanted, as it was last said.
+    pub fn wanted(&self) -> usize {
+        self.wanted
     }
 
     /// How many pairs it has.
