@@ -6,6 +6,7 @@ mod bound;
 mod bytes;
 mod common;
 mod copies;
+mod few;
 mod fnv;
 mod key;
 mod limits;
