@@ -6,7 +6,7 @@ ghost use Rattle.std.specs.List.{list_all};
 ghost use Rattle.std.specs.Cow.{cow_slice_items};
 ghost use Rattle.line_protocol.specs.Escape.{escape, is_plain, unescape as unescaped};
 
-use crate::scan::{Sought, has_byte, has_sought};
+use crate::scan::{has_byte, has_escaped};
 use percent_encoding::{AsciiSet, CONTROLS, ascii_set, percent_decode, percent_encode};
 use std::alloc::{AllocError, Global};
 use std::borrow::CowSlice;
@@ -66,10 +66,10 @@ fn escape_each(out: &mut Vec<u8>, bytes: &[u8]) -> Result<(), AllocError>
     Ok(())
 }
 
-/// Whether each of these bytes stands for itself.
-#[inline(always)]
-fn are_plain(bytes: &[u8]) -> bool
+/// Whether each of these bytes stands for itself in a word.
+#[inline]
+pub fn are_plain(bytes: &[u8]) -> bool
     ensures { result ≡ list_all is_plain bytes.now }
 {
-    !has_sought(bytes, Sought::Escaped)
+    !has_escaped(bytes)
 }

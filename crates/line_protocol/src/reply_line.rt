@@ -1,8 +1,12 @@
 //! Lines of words and numbers, appended whole or not at all.
+ghost use Rattle.std.specs.Prelude.{◌≡◌, ◌≤◌, ◌-◌, length, true};
+ghost use Rattle.std.specs.List.{list_all};
+ghost use Rattle.line_protocol.specs.Escape.{is_plain};
 ghost use Rattle.line_protocol.specs.ReplyLine.{Appends, AppendsAll, number_line};
 ghost use Rattle.line_protocol.specs.Texts.{pair_line, value_line};
 
-use crate::escape::escape_into;
+use crate::escape::{are_plain, escape_into};
+use crate::plain_line::{VALUE_FRAME, put_value};
 use itoa::Buffer;
 use std::alloc::AllocError;
 
@@ -30,8 +34,39 @@ pub(crate) fn append_line(out: &mut Vec<u8>, line: &[u8]) -> Result<(), AllocErr
     out.extend_from_slice(line)
 }
 
+/// The most bytes of a line that is written over bytes which are appended first, so many at once.
+const SHORT_LINE: usize = 64;
+
 /// Appends the line of a value, or nothing.
 pub(crate) fn append_value(out: &mut Vec<u8>, value: &[u8]) -> Result<(), AllocError>
+    ensures { AppendsAll result out.old.items out.new.items (value_line value.now) }
+{
+    if value.len() <= SHORT_LINE - VALUE_FRAME && are_plain(value) {
+        append_short_value(out, value)
+    } else {
+        append_any_value(out, value)
+    }
+}
+
+/// The same of few bytes that stand for themselves: it asks for room once.
+#[inline(always)]
+fn append_short_value(out: &mut Vec<u8>, value: &[u8]) -> Result<(), AllocError>
+    requires short { length value.now ≤ SHORT_LINE - VALUE_FRAME }
+    requires plain { list_all is_plain value.now ≡ true }
+    ensures { AppendsAll result out.old.items out.new.items (value_line value.now) }
+{
+    let start = out.len();
+    out.extend_from_slice(&[b'\n'; SHORT_LINE])?;
+    let end = start + (value.len() + VALUE_FRAME);
+    put_value(&mut out[start..end], value);
+    out.truncate(end);
+    Ok(())
+}
+
+/// The same of any bytes.
+#[cold]
+#[inline(never)]
+fn append_any_value(out: &mut Vec<u8>, value: &[u8]) -> Result<(), AllocError>
     ensures { AppendsAll result out.old.items out.new.items (value_line value.now) }
 {
     let length = out.len();

@@ -2,6 +2,7 @@
 ghost use Rattle.std.specs.Prelude.{◌≡◌, ◌<◌, ◌≤◌, ◌+◌, ◌==◌, length, nat_lt, take, drop};
 ghost use Rattle.std.specs.List.{list_any};
 ghost use Rattle.line_protocol.specs.Escape.{is_sought};
+ghost use Rattle.line_protocol.specs.declared.scan.Sought.TheVariants.{Escaped};
 
 use std::simd::prelude::*;
 
@@ -20,6 +21,18 @@ pub(crate) fn has_byte(bytes: &[u8], wanted: u8) -> bool
     ensures { result ≡ list_any (λ b. b == wanted) bytes.now }
 {
     has_sought(bytes, Sought::Byte(wanted))
+}
+
+/// Whether a byte that doesn't stand for itself is among these. Of many, more are tested at once.
+#[inline]
+pub(crate) fn has_escaped(bytes: &[u8]) -> bool
+    ensures { result ≡ list_any (is_sought Escaped) bytes.now }
+{
+    if bytes.len() >= 64 {
+        in_parts::<64>(bytes, Sought::Escaped)
+    } else {
+        has_sought(bytes, Sought::Escaped)
+    }
 }
 
 /// Whether a sought byte is among these. As many are tested at once as a vector has that they fill. The

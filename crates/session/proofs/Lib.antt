@@ -2,6 +2,7 @@ pub mod AskedLists
 pub mod Gaining
 pub mod Joining
 pub mod OneCall
+pub mod PairLines
 pub mod PlainSessions
 pub mod PlainTexts
 pub mod Scanning

@@ -56,7 +56,7 @@ pub(crate) fn serve_scan<O: Ordered, K: Sink, P: Patience>(
             Ok(upto) => {
                 more = upto.order(to).is_lt();
                 at = upto;
-                match write_pairs(sink, &mut buffers.reply, &buffers.page, left) {
+                match write_pairs(sink, &mut buffers.lines, &buffers.page, left) {
                     Ok(count) => left -= count,
                     Err(stop) => return Err(stop),
                 }
