@@ -1,2 +1,3 @@
 pub mod PartEnds
+mod Firsts
 mod Taking

@@ -5,4 +5,4 @@ mod ends;
 mod fills;
 
 pub use ends::lower_end;
-pub use fills::fill;
+pub use fills::{fill, fill_few};
