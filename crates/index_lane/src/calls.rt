@@ -21,7 +21,7 @@ use map_model::{Page, Refusal};
 use std::cmp::Ordering;
 use std::sync::ledger::{Blank, Ledger};
 use steps::Steps;
-use worm_index::{GetFault, Index, PartFault, PutFault, try_del, try_get, try_part, try_put};
+use worm_index::{GetFault, Index, PartFault, PutFault, try_del, try_few, try_get, try_put};
 
 // The place of the number of lanes given among the board's words.
 const LANES_GIVEN: u32 = 2;
@@ -166,7 +166,7 @@ pub(crate) fn del<L: Ledger>(
     }
 }
 
-/// [`try_part`].
+/// [`try_few`] of as many pairs as the page wants, or of one where it wants none.
 pub(crate) fn part<L: Ledger>(
     pass: &mut Pass,
     index: &Index,
@@ -197,7 +197,8 @@ pub(crate) fn part<L: Ledger>(
     ensures room { NotFull result }
 {
     let mut steps = Steps::<L>::new(blank);
-    match try_part(pass, index, from, to, page, &mut steps) {
+    let most = page.wanted().max(1);
+    match try_few(pass, index, from, to, most, page, &mut steps) {
         Ok(upto) => {
             see_lanes(pass, index);
             Ok(upto)

@@ -14,7 +14,7 @@ use std::marker::Brand;
 use std::sync::ledger::{Blank, Ledger};
 use steps::Steps;
 use twin_tables::{give_turn, take_turn};
-use worm_index::{Index, PutFault, fork, try_del, try_part, try_put};
+use worm_index::{Index, PutFault, fork, try_del, try_few, try_part, try_put};
 
 const SMALL: Shape = Shape {
     leaves: 4,
@@ -49,6 +49,66 @@ fn lowest_part_is<L: Ledger>(
         Ok(upto) => page.len() == count && upto.order(end) == Ordering::Equal,
         Err(_) => false,
     }
+}
+
+// Whether the lowest part of at most so many pairs has just as many and ends there.
+fn lowest_few_are<L: Ledger>(
+    alloc: Global,
+    pass: &mut Pass,
+    index: &Index,
+    most: usize,
+    end: &Bound,
+    steps: &mut Steps<L>,
+) -> bool
+    requires of { IsOf index.now.board pass.old }
+    requires lane { IsSome pass.old.lane }
+    requires idle { IsIdle (view pass.old) }
+    requires some { 0 < most }
+    ensures of { IsOf index.now.board pass.new }
+    ensures lane { pass.new.lane ≡ pass.old.lane }
+    ensures idle { IsIdle (view pass.new) }
+{
+    let mut page = Page::new(alloc);
+    match try_few(pass, index, &Bound::Low, &Bound::High, most, &mut page, steps) {
+        Ok(upto) => page.len() == most && upto.order(end) == Ordering::Equal,
+        Err(_) => false,
+    }
+}
+
+// Of a leaf's two pairs one is wanted, and then both.
+fn few_end_at_the_next_key<L: Ledger>(
+    alloc: Global,
+    pass: &mut Pass,
+    index: &Index,
+    blank: Blank,
+) -> bool
+    requires of { IsOf index.now.board pass.old }
+    requires lane { IsSome pass.old.lane }
+    requires idle { IsIdle (view pass.old) }
+    requires name { blank.name ≡ L.name }
+    requires parts { blank.parts ≡ L.parts }
+    requires some { 0 < blank.parts }
+{
+    let mut steps = Steps::<L>::new(blank);
+    let (Ok(a), Ok(b), Ok(next)) = (
+        Key::new(alloc, b"a"),
+        Key::new(alloc, b"b"),
+        Key::new(alloc, b"b"),
+    ) else {
+        return false;
+    };
+    let first = try_put(pass, index, &a, b"1", &mut steps) == Ok(true);
+    let second = try_put(pass, index, &b, b"2", &mut steps) == Ok(true);
+    let one = lowest_few_are(alloc, pass, index, 1, &Bound::At(next), &mut steps);
+    let both = lowest_few_are(alloc, pass, index, 2, &Bound::High, &mut steps);
+    first && second && one && both
+}
+
+fn few_pairs_of_a_leaf(alloc: Global) -> bool {
+    let Ok((index, mut pass)) = Index::make(alloc, &SMALL) else {
+        return false;
+    };
+    few_end_at_the_next_key::<Brand>(alloc, &mut pass, &index, Blank::new(1))
 }
 
 // Three keys are one too many for a leaf; a leaf with one key and its neighbour with one are too many
@@ -162,6 +222,7 @@ fn turn_keeps_a_leaf_crowded(alloc: Global) -> bool {
 #[test]
 fn keys_of_a_small_index(rt: HostRuntime) {
     assert!(&rt; splits_and_merges(rt.alloc()));
+    assert!(&rt; few_pairs_of_a_leaf(rt.alloc()));
     assert!(&rt; one_leaf_is_crowded(rt.alloc()));
     assert!(&rt; turn_keeps_a_leaf_crowded(rt.alloc()));
 }

@@ -52,6 +52,7 @@ pub(crate) fn serve_scan<O: Ordered, K: Sink, P: Patience>(
             let count = (most as usize - left) as u64;
             return reply(sink, &mut buffers.reply, &Answer::End(count));
         }
+        buffers.page.want(left);
         match part_patiently(store, patience, &at, to, &mut buffers.page) {
             Ok(upto) => {
                 more = upto.order(to).is_lt();
