@@ -69,7 +69,15 @@ fn lowest_few_are<L: Ledger>(
     ensures idle { IsIdle (view pass.new) }
 {
     let mut page = Page::new(alloc);
-    match try_few(pass, index, &Bound::Low, &Bound::High, most, &mut page, steps) {
+    match try_few(
+        pass,
+        index,
+        &Bound::Low,
+        &Bound::High,
+        most,
+        &mut page,
+        steps,
+    ) {
         Ok(upto) => page.len() == most && upto.order(end) == Ordering::Equal,
         Err(_) => false,
     }
