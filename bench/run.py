@@ -1,10 +1,10 @@
 #!/usr/bin/env python3
 """Times `worm` beside a peer in Rust's std, in alternation, and compares what they write.
 
-    python3 bench/run.py [ROUNDS] [--quick] [--only sessions,lanes,server,calls]
+    python3 bench/run.py [ROUNDS] [--quick] [--only sessions,lanes,server,calls,indexes]
 
-It prints the tables of sessions, lanes, the server and its system calls, and draws `bench/picture.svg` where both lanes and the
-server were measured. There are at least 5 rounds, and ten times as many of a script that is over in a moment; with
+It prints the tables of sessions, lanes, the server and its system calls, and both indexes, and draws `bench/picture.svg`
+where both lanes and the server were measured. There are at least 5 rounds, and ten times as many of a script that is over in a moment; with
 `--quick` there are 3, fewer scripts and fewer requests, in less than 4 minutes.
 
 The peer is built by `rustc` with what it has to make it fast. The environment's WORM names another binary of the
@@ -17,6 +17,7 @@ import os
 import shutil
 import subprocess
 
+from indexes import indexes_table
 from lanes import lanes_table
 from measure import BUILD, HERE, Plan, end
 from picture import draw
@@ -26,7 +27,7 @@ from sessions import sessions_table
 TOP = os.path.dirname(HERE)
 LEAST_ROUNDS = 5
 QUICK_ROUNDS = 3
-TABLES = ["sessions", "lanes", "server", "calls"]
+TABLES = ["sessions", "lanes", "server", "calls", "indexes"]
 
 # The most that the compiler does for a program of one crate.
 FAST = ["-C", "opt-level=3", "-C", "lto=fat", "-C", "codegen-units=1", "-C", "panic=abort"]
@@ -76,6 +77,8 @@ def main() -> None:
     of_server = server_table(worm, peer, plan) if "server" in tables else []
     if "calls" in tables:
         calls_table(worm, peer)
+    if "indexes" in tables:
+        indexes_table(plan)
     if of_lanes and of_server:
         print(f"\nbench: drawn as {os.path.relpath(draw(of_lanes, of_server))}")
     print("\nbench: all outputs are equal" if {"sessions", "lanes"} & set(tables) else "\nbench: all replies were counted")
