@@ -24,7 +24,7 @@ from contextlib import contextmanager
 TOP = os.path.dirname(os.path.dirname(os.path.abspath(__file__)))
 sys.path.insert(0, os.path.join(TOP, "clients"))
 
-from worm import Connection, Delete, Full, Get, Put, RequestFault, Scan, WormError, escape  # noqa: E402
+from worm import Connection, Delete, FullError, Get, Pool, Put, Scan, WormError, escape  # noqa: E402
 
 HOST = "127.0.0.1"
 # A build with checks takes seconds to start, and more on a busy machine.
@@ -555,12 +555,97 @@ def the_client_of_the_repository(worm: str) -> str:
         longest = [b"\xff" * 254 + bytes([last]) for last in (0xFE, 0xFF)]
         client.pipeline([Put(key, b"") for key in longest])
         same([key for key, _ in client.scan(longest[0])], longest, "a scan of the last keys")
-        mixed = client.pipeline([Get(b""), Scan(b"0000", b"0002"), Get(b"x" * 256), Delete(b"0000"), Get(b"0001")])
-        same([str(result) for result in mixed if isinstance(result, WormError)], ["ERR 3 key"] * 2, "faults")
-        same(mixed[3:], [True, b"v0001"], "answers behind faults")
-        is_raised(RequestFault, lambda: client.put(b"a", b"v" * 1_025))
-        same(client.get(b"0001"), b"v0001", "a get behind a fault")
-    return "keys and values of every byte, pipelines, scans over pages, faults as exceptions"
+        same([key for key, _ in client.scan(prefix=b"01")], many[100:200], "a scan by a prefix")
+        same([key for key, _ in client.scan(prefix=b"\xff")], [b"\xff" * 254 + b"\xfe", b"\xff" * 255], "the last prefix")
+        mixed = client.pipeline([Scan(b"0000", b"0002"), Delete(b"0000"), Get(b"0000"), Get(b"0001")])
+        same(mixed[0], [(key, b"v" + key) for key in many[:2]], "a scan in a pipeline")
+        same(mixed[1:], [True, None, b"v0001"], "answers behind a scan")
+    return "keys and values of every byte, pipelines, scans over pages and by a prefix"
+
+
+@case
+def a_late_server_breaks_the_connection(worm: str) -> str:
+    with server(worm) as running, Connection(HOST, running.port, timeout=0.3) as client:
+        client.pipeline([Put(key, key * 2) for key in (b"a", b"b", b"c")])
+        with stopped(running):
+            is_raised(TimeoutError, lambda: client.get(b"a"))
+        time.sleep(0.2)
+        for key in (b"b", b"c"):
+            is_raised(ConnectionError, lambda: client.get(key))
+        is_raised(ConnectionError, lambda: list(client.scan()))
+        is_served(running)
+    return "a get that timed out is never answered later, nor is another one by its reply"
+
+
+@case
+def an_interrupt_breaks_the_connection(worm: str) -> str:
+    with server(worm) as running, running.client() as client:
+        client.pipeline([Put(key, key * 2) for key in (b"a", b"b")])
+        before = signal.signal(signal.SIGALRM, interrupt)
+        try:
+            with stopped(running):
+                signal.setitimer(signal.ITIMER_REAL, 0.3)
+                is_raised(KeyboardInterrupt, lambda: client.get(b"a"))
+        finally:
+            signal.signal(signal.SIGALRM, before)
+        time.sleep(0.2)
+        is_raised(ConnectionError, lambda: client.get(b"b"))
+        is_served(running)
+    return "a get that was interrupted leaves no reply to the next one"
+
+
+def interrupt(number: int, frame: object) -> None:
+    raise KeyboardInterrupt
+
+
+@case
+def a_broken_pipeline_breaks_the_connection(worm: str) -> str:
+    with server(worm) as running:
+        with Connection(HOST, running.port, timeout=0.3) as client:
+            client.put(b"a", b"1" * 1_024)
+            is_raised(TypeError, lambda: client.pipeline([Get(b"a"), b"GET a"]))
+            same(client.get(b"a"), b"1" * 1_024, "a get behind a pipeline that was never sent")
+            with stopped(running):
+                # More than the system takes for a server that reads nothing.
+                is_raised(TimeoutError, lambda: client.pipeline([Put(b"a", b"2" * 1_024)] * 50_000))
+            is_raised(ConnectionError, lambda: client.get(b"a"))
+        is_served(running)
+    return "a pipeline that was cut off in the middle leaves no reply to the next request"
+
+
+@contextmanager
+def stopped(running: Server) -> Iterator[None]:
+    """The server does nothing inside."""
+    running.process.send_signal(signal.SIGSTOP)
+    try:
+        yield
+    finally:
+        running.process.send_signal(signal.SIGCONT)
+
+
+@case
+def a_client_without_a_worker_times_out(worm: str) -> str:
+    with server(worm, "--workers", "1") as running, running.client() as first:
+        first.put(b"a", b"1")
+        with Connection(HOST, running.port, timeout=0.3) as second:
+            is_raised(TimeoutError, lambda: second.get(b"a"))
+        first.close()
+        is_served(running)
+    return "where the one worker is taken a second client is accepted and not answered, until it gives up"
+
+
+@case
+def threads_share_a_pool(worm: str) -> str:
+    with server(worm, "--workers", "4") as running, Pool(HOST, running.port, 4, PATIENCE) as pool:
+
+        def work(number: int) -> None:
+            for key in (b"%02d-%03d" % (number, place) for place in range(100)):
+                same((pool.put(key, key * 2), pool.get(key)), (True, key * 2), "a put and a get")
+            same(len(list(pool.scan(prefix=b"%02d-" % number))), 100, "a scan of own keys")
+
+        at_once(16, work)
+        same(sum(1 for _ in pool.scan()), 1_600, "number of keys")
+    return "16 threads share 4 connections, each right about its own keys"
 
 
 @case
@@ -568,13 +653,13 @@ def a_full_leaf_is_told(worm: str) -> str:
     options = ["--leaves=1", "--items=64", "--heads=64", "--soft=2", "--hard=3", "--merge-sum=1"]
     with server(worm, *options, small=[]) as running, running.client() as client:
         client.pipeline([Put(key, b"1") for key in (b"a", b"b", b"c")])
-        error = is_raised(Full, lambda: client.put(b"d", b"1"))
+        error = is_raised(FullError, lambda: client.put(b"d", b"1"))
         same(str(error), "FULL crowded 3 3", "the refusal")
         same((client.put(b"a", b"9"), client.delete(b"a"), client.put(b"d", b"1")), (False, True, True), "what follows")
     return "a fourth key where there is room for three is refused, and taken once another is gone"
 
 
-def is_raised(kind: type[WormError], call: Callable[[], object]) -> WormError:
+def is_raised(kind: type[BaseException], call: Callable[[], object]) -> BaseException:
     try:
         call()
     except kind as error:
