@@ -12,7 +12,7 @@ use Rattle.map_model.proofs.Growing.{follows_weaker, follows_then, follows_itsel
 use Rattle.line_protocol.specs.declared.fault.RequestFault.TheVariants as faults
 use Rattle.line_protocol.specs.declared.request.Request.TheVariants as asks
 use Rattle.line_protocol.specs.Requests.{Asked}
-use Rattle.session.specs.Patience.{IsLast}
+use Rattle.patience.specs.Patience.{IsLast}
 use Rattle.session.specs.Transcripts.{Exchange, HasNoRoom, IsRefused, IsServed, IsServedAs, AreServed, asked_of, entries_of, owed, EndsLast, Transcribes}
 
 -- where there are pieces, what was last before them doesn't matter

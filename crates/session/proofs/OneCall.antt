@@ -10,7 +10,7 @@ use Rattle.map_model.specs.declared.refusal.Refusal.TheVariants.{Again, Full, No
 use Rattle.map_model.proofs.Growing.{follows_weaker, follows_told, follows_itself, stays}
 use Rattle.line_protocol.specs.declared.request.Request.{Request}
 use Rattle.line_protocol.specs.Requests.{Asked}
-use Rattle.session.specs.Patience.{IsCounted}
+use Rattle.patience.specs.Patience.{IsCounted}
 use Rattle.session.specs.Replies.{reply_lines, refusal_line}
 use Rattle.session.specs.Transcripts.{Exchange, IsAnswered, IsRefused, IsTold, IsFull, HasNoRoom, IsServedAs, Transcribes}
 use Rattle.session.specs.Turns.{WritesPieces}

@@ -28,7 +28,7 @@ use Rattle.line_protocol.specs.declared.request.Request.TheVariants as asks
 use Rattle.line_protocol.specs.ReplyLine.{number_word, escaped_word}
 use Rattle.line_protocol.specs.Requests.{Asked}
 use Rattle.line_protocol.specs.Texts.{text, pair_line}
-use Rattle.session.specs.Patience.{MayTell}
+use Rattle.patience.specs.Patience.{MayTell}
 use Rattle.session.specs.Plain.{scan_lines, plain_answer, plain_map, plain_from, IsLineStart, HasNoRefusal, BeginsPlain}
 use Rattle.session.specs.Replies.{refusal_line, end_line, pair_lines, reply_lines}
 use Rattle.map_model.specs.Parts.{pairs_in, pairs_of}

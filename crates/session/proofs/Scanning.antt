@@ -19,7 +19,7 @@ use Rattle.map_model.proofs.Growing.{follows_then, follows_weaker, follows_itsel
 use Rattle.outside.specs.Writing.{Wrote}
 use Rattle.line_protocol.specs.declared.request.Request.TheVariants as asks
 use Rattle.line_protocol.specs.Texts.{pair_line}
-use Rattle.session.specs.Patience.{MayTell, IsLast, owed_by}
+use Rattle.patience.specs.Patience.{MayTell, IsLast, owed_by}
 use Rattle.session.specs.Replies.{pair_lines, end_line, refusal_line}
 use Rattle.session.specs.Scans.{AreParts, is_done, EndsScan, MayBreak}
 use Rattle.session.specs.Transcripts.{Transcribes}

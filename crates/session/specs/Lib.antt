@@ -1,5 +1,4 @@
 pub mod Asked
-pub mod Patience
 pub mod Plain
 pub mod Replies
 pub mod Scans

@@ -9,7 +9,7 @@ use Rattle.map_model.specs.History.{Entry}
 use Rattle.map_model.specs.Parts.{pairs_in}
 use Rattle.map_model.specs.declared.refusal.Refusal.{Refusal}
 use Rattle.map_model.specs.declared.refusal.Refusal.TheVariants.{Again, Full, NoMemory}
-use Rattle.session.specs.Patience.{MayTell}
+use Rattle.patience.specs.Patience.{MayTell}
 use Rattle.session.specs.Replies.{end_line, refusal_line}
 
 -- the entries are parts: the first begins at the lower end, each next one where the one before ended, none ends past the upper end, and each is asked for while pairs are wanted

@@ -14,7 +14,7 @@ use Rattle.line_protocol.specs.declared.fault.RequestFault.TheVariants as faults
 use Rattle.line_protocol.specs.declared.request.Request.TheVariants as asks
 use Rattle.line_protocol.specs.Requests.{Asked, request}
 use Rattle.line_protocol.specs.Texts.{text}
-use Rattle.session.specs.Patience.{owed_by, IsLast, MayTell}
+use Rattle.patience.specs.Patience.{owed_by, IsLast, MayTell}
 use Rattle.session.specs.Replies.{reply_lines, refusal_line, pair_lines}
 use Rattle.session.specs.Scans.{AreParts, is_done, EndsScan}
 

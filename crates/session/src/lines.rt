@@ -13,7 +13,6 @@ ghost use Rattle.session.specs.Turns.{WritesPieces};
 ghost use Rattle.session.specs.Writes.{Gained, Reaches};
 
 use crate::buffers::Buffers;
-use crate::patience::Patience;
 use crate::requests::{del_request, get_request, put_request};
 use crate::scans::serve_scan;
 use crate::writes::reply;
@@ -21,6 +20,7 @@ use line_protocol::{Answer, Event, Fault, Lines, Request, RequestFault, read_req
 use line_reader::LONGEST_LINE;
 use map_model::Ordered;
 use outside::{Sink, Stop};
+use patience::Patience;
 use std::alloc::Global;
 
 // Whether the session ends behind it.

@@ -7,14 +7,13 @@ ghost use Rattle.session.specs.Transcripts.{Serves};
 ghost use Rattle.session.specs.Turns.{WritesPieces};
 ghost use Rattle.session.specs.Writes.{Reaches};
 
-use crate::attempts::{del_patiently, get_patiently, put_patiently};
 use crate::buffers::Buffers;
-use crate::patience::Patience;
 use crate::writes::{refuse, reply};
 use key_bytes::{Key, LONGEST_VALUE};
 use line_protocol::{Answer, RequestKey};
 use map_model::Ordered;
 use outside::{Sink, Stop};
+use patience::{Patience, del_patiently, get_patiently, put_patiently};
 use std::alloc::Global;
 
 /// Serves a put, and writes its line.

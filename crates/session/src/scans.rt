@@ -6,14 +6,13 @@ ghost use Rattle.outside.specs.Causes.{FaultsCounted};
 ghost use Rattle.session.specs.Transcripts.{Serves};
 ghost use Rattle.session.specs.Turns.{WritesPieces};
 
-use crate::attempts::part_patiently;
 use crate::buffers::Buffers;
-use crate::patience::Patience;
 use crate::writes::{refuse, reply, write_pairs};
 use key_bytes::Bound;
 use line_protocol::Answer;
 use map_model::Ordered;
 use outside::{Sink, Stop};
+use patience::{Patience, part_patiently};
 
 // Whether no further part is asked for.
 fn is_over(more: bool, left: usize) -> bool

@@ -11,10 +11,10 @@ ghost use Rattle.session.specs.Sessions.{Session, stop_end, rest_end};
 
 use crate::buffers::Buffers;
 use crate::lines::{serve_piece, serve_rest};
-use crate::patience::Patience;
 use line_protocol::Lines;
 use map_model::Ordered;
 use outside::{Sink, Source, Stop};
+use patience::Patience;
 use std::alloc::Global;
 
 /// How many bytes a session asks for at once.

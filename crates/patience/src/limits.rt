@@ -1,7 +1,7 @@
 //! How often a refused request is tried again.
 ghost use Rattle.std.specs.Prelude.{◌≡◌, ◌-◌, ◌<◌, ℕ, Option};
 ghost use Rattle.std.specs.Bool.{OnTrue, OnFalse};
-ghost use Rattle.session.specs.Patience.{IsSpent, next_try};
+ghost use Rattle.patience.specs.Patience.{IsSpent, next_try};
 
 /// How often a request, or a part of a scan, is tried again while another lane is in the way.
 pub trait Patience {

@@ -1,6 +1,6 @@
 use Rattle.std.proofs.Common.{◌∙◌, arith}
 use Rattle.map_model.proofs.Growing.{follows_stays_enters, follows_stays_stays}
-use Rattle.session.proofs.attempts.put_patiently.Goals as goal
+use Rattle.patience.proofs.attempts.del_patiently.Goals as goal
 
 pub returns-in-Ok-clause-ok : goal.returns-in-Ok-clause-ok
 returns-in-Ok-clause-ok g c =

@@ -1,5 +1,5 @@
 //! Patience without end.
-use crate::patience::Patience;
+use crate::limits::Patience;
 use std::alloc::AllocError;
 use std::sync::Wait;
 

@@ -1,11 +1,11 @@
 use Rattle.std.proofs.Common.{◌∙◌, arith}
-use Rattle.map_model.proofs.Growing.{follows_stays_enters, follows_stays_stays}
-use Rattle.session.proofs.attempts.del_patiently.Goals as goal
+use Rattle.map_model.proofs.Growing.{follows_then, stays_enters_last, follows_stays_stays}
+use Rattle.patience.proofs.attempts.part_patiently.Goals as goal
 
 pub returns-in-Ok-clause-ok : goal.returns-in-Ok-clause-ok
 returns-in-Ok-clause-ok g c =
     let now = c.attempts.invariant in
-    follows_stays_enters _ _ _ _ _ _ _ now.stays (rw (now.lane, now.sole) at c.in-Ok.ensures.ok)
+    follows_then _ _ _ _ _ _ (stays_enters_last _ _ _ _) now.stays (rw (now.lane, now.sole) at c.in-Ok.ensures.ok)
 
 pub returns-then-not-again-clause-refused : goal.returns-then-not-again-clause-refused
 returns-then-not-again-clause-refused g c =

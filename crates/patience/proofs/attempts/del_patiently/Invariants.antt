@@ -2,8 +2,8 @@ use Rattle.std.proofs.Common.{◌≡◌, ◌≤◌, List}
 use Rattle.counts.specs.Counts.{RoseBy}
 use Rattle.map_model.specs.History.{Entry}
 use Rattle.map_model.specs.Ordered.{Follows, Stays}
-use Rattle.session.specs.Patience.{next_try}
-use Rattle.session.proofs.attempts.get_patiently.Given as goal
+use Rattle.patience.specs.Patience.{next_try}
+use Rattle.patience.proofs.attempts.del_patiently.Given as goal
 
 -- nothing was entered, and each attempt was counted
 abbrev pub invariant-attempts : goal.invariant-attempts

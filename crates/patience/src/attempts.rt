@@ -5,9 +5,9 @@ ghost use Rattle.map_model.specs.Calls.{Get, Put, Del, Part, Pairs, answer_of};
 ghost use Rattle.map_model.specs.History.{Entry, after, entry_of};
 ghost use Rattle.map_model.specs.Ordered.{Follows, Enters, EntersLast, Stays, got, was_put, was_gone};
 ghost use Rattle.map_model.specs.Refusals.{NotFull};
-ghost use Rattle.session.specs.Patience.{Tells};
+ghost use Rattle.patience.specs.Patience.{Tells};
 
-use crate::patience::Patience;
+use crate::limits::Patience;
 use key_bytes::{Bound, Key, LONGEST_VALUE};
 use map_model::{Ordered, Page, Refusal};
 use std::cmp::Ordering;
@@ -37,7 +37,7 @@ macro_rules! patiently {
 
 /// Puts, again while patience lasts.
 #[inline(always)]
-pub(crate) fn put_patiently<O: Ordered, P: Patience>(
+pub fn put_patiently<O: Ordered, P: Patience>(
     store: &mut O,
     patience: &mut P,
     key: &Key,
@@ -64,7 +64,7 @@ pub(crate) fn put_patiently<O: Ordered, P: Patience>(
 
 /// Leaves the value at the key in `value`, again while patience lasts.
 #[inline(always)]
-pub(crate) fn get_patiently<O: Ordered, P: Patience>(
+pub fn get_patiently<O: Ordered, P: Patience>(
     store: &mut O,
     patience: &mut P,
     key: &Key,
@@ -87,7 +87,7 @@ pub(crate) fn get_patiently<O: Ordered, P: Patience>(
 
 /// Takes the key out, again while patience lasts.
 #[inline(always)]
-pub(crate) fn del_patiently<O: Ordered, P: Patience>(
+pub fn del_patiently<O: Ordered, P: Patience>(
     store: &mut O,
     patience: &mut P,
     key: &Key,
@@ -109,7 +109,7 @@ pub(crate) fn del_patiently<O: Ordered, P: Patience>(
 
 /// Leaves the first pairs between two ends in `page`, again while patience lasts.
 #[inline(always)]
-pub(crate) fn part_patiently<O: Ordered, P: Patience>(
+pub fn part_patiently<O: Ordered, P: Patience>(
     store: &mut O,
     patience: &mut P,
     from: &Bound,
