@@ -4,7 +4,9 @@
 mod attempts;
 mod endless;
 mod limits;
+mod scans;
 
 pub use attempts::{del_patiently, get_patiently, part_patiently, put_patiently};
 pub use endless::Endless;
 pub use limits::{Bounded, Patience};
+pub use scans::scan_patiently;
