@@ -26,6 +26,7 @@ pub fn neighbours<R: Rows, L: Ledger>(rows: &mut R, leaf: u32, steps: &mut Steps
     ensures before { (A : Anchors) → StandsFor (R.shape rows.old) (R.words rows.old) A → IsBefore A leaf result.before }
     ensures behind { (A : Anchors) → StandsFor (R.shape rows.old) (R.words rows.old) A → IsBehind A leaf result.behind }
     ensures steps { steps.new ≡ steps.old + 1 }
+    ensures counted { R.rows_read rows.new + steps.old ≡ R.rows_read rows.old + steps.new }
     ensures words { R.words rows.new ≡ R.words rows.old }
     ensures shape { R.shape rows.new ≡ R.shape rows.old }
     ensures stays { R.stays rows.old rows.new }

@@ -27,6 +27,7 @@ pub fn last_of_child<R: Rows, L: Ledger>(
     requires child { (A : Anchors) → StandsFor (R.shape rows.old) (R.words rows.old) A → is_prefix A (prefix.now ++ byte ∷ []) ≡ true }
     ensures leaf { (A : Anchors) → StandsFor (R.shape rows.old) (R.words rows.old) A → result ≡ last_leaf (under A (prefix.now ++ byte ∷ [])) }
     ensures cost { (A : Anchors) → StandsFor (R.shape rows.old) (R.words rows.old) A → (c : ℕ) → MostInBucket (R.shape rows.old) A c → steps.new ≤ steps.old + c }
+    ensures counted { R.rows_read rows.new + steps.old ≡ R.rows_read rows.old + steps.new }
     ensures words { R.words rows.new ≡ R.words rows.old }
     ensures shape { R.shape rows.new ≡ R.shape rows.old }
     ensures stays { R.stays rows.old rows.new }

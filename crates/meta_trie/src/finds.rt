@@ -31,6 +31,7 @@ pub(crate) fn find<R: Rows, L: Ledger>(
     requires hash { hash ≡ prefix_hash (R.shape rows.old).salt prefix.now }
     ensures value { (known : List ℕ → Option Item) (h : Holds (R.shape rows.old) (R.words rows.old) known) → Walked (R.shape rows.old) (R.words rows.old) known h prefix.now result }
     ensures cost { (known : List ℕ → Option Item) (h : Holds (R.shape rows.old) (R.words rows.old) known) → steps.new ≤ steps.old + length (h.buckets (bucket_of (R.shape rows.old) prefix.now)) }
+    ensures counted { R.rows_read rows.new + steps.old ≡ R.rows_read rows.old + steps.new }
     ensures words { R.words rows.new ≡ R.words rows.old }
     ensures shape { R.shape rows.new ≡ R.shape rows.old }
     ensures stays { R.stays rows.old rows.new }

@@ -23,6 +23,7 @@ pub fn look<R: Rows, L: Ledger>(
     requires { IsTable (R.shape rows.old) (R.words rows.old) }
     ensures value { (A : Anchors) → StandsFor (R.shape rows.old) (R.words rows.old) A → Looked (item A) prefix.now result }
     ensures cost { (A : Anchors) → StandsFor (R.shape rows.old) (R.words rows.old) A → (c : ℕ) → MostInBucket (R.shape rows.old) A c → steps.new ≤ steps.old + c }
+    ensures counted { R.rows_read rows.new + steps.old ≡ R.rows_read rows.old + steps.new }
     ensures words { R.words rows.new ≡ R.words rows.old }
     ensures shape { R.shape rows.new ≡ R.shape rows.old }
     ensures stays { R.stays rows.old rows.new }
@@ -43,6 +44,7 @@ pub fn look_by_hash<R: Rows, L: Ledger>(
     requires hash { hash ≡ prefix_hash (R.shape rows.old).salt prefix.now }
     ensures value { (A : Anchors) → StandsFor (R.shape rows.old) (R.words rows.old) A → Looked (item A) prefix.now result }
     ensures cost { (A : Anchors) → StandsFor (R.shape rows.old) (R.words rows.old) A → (c : ℕ) → MostInBucket (R.shape rows.old) A c → steps.new ≤ steps.old + c }
+    ensures counted { R.rows_read rows.new + steps.old ≡ R.rows_read rows.old + steps.new }
     ensures words { R.words rows.new ≡ R.words rows.old }
     ensures shape { R.shape rows.new ≡ R.shape rows.old }
     ensures stays { R.stays rows.old rows.new }

@@ -36,6 +36,7 @@ pub fn place_by_hash<R: Rows, L: Ledger>(
     requires word { word < 4 }
     ensures value { (A : Anchors) → StandsFor (R.shape rows.old) (R.words rows.old) A → IsPlaced (R.shape rows.old) (R.words rows.old) (item A) prefix.now word result }
     ensures cost { (A : Anchors) → StandsFor (R.shape rows.old) (R.words rows.old) A → (c : ℕ) → MostInBucket (R.shape rows.old) A c → steps.new ≤ steps.old + c }
+    ensures counted { R.rows_read rows.new + steps.old ≡ R.rows_read rows.old + steps.new }
     ensures words { R.words rows.new ≡ R.words rows.old }
     ensures shape { R.shape rows.new ≡ R.shape rows.old }
     ensures stays { R.stays rows.old rows.new }

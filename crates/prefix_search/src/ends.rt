@@ -22,6 +22,7 @@ pub fn locate_end<R: Rows, L: Ledger>(rows: &mut R, from: &Bound, steps: &mut St
     ensures first { ((key : List ℕ) → from.now ≡ Bound.At key → ⊥) → (A : Anchors) → StandsFor (R.shape rows.old) (R.words rows.old) A → IsLocated A [] result }
     ensures key_cost { (key : List ℕ) → from.now ≡ Bound.At key → (A : Anchors) → StandsFor (R.shape rows.old) (R.words rows.old) A → (c : ℕ) → MostInBucket (R.shape rows.old) A c → steps.new ≤ steps.old + bound A key c }
     ensures first_cost { ((key : List ℕ) → from.now ≡ Bound.At key → ⊥) → steps.new ≤ steps.old + 2 }
+    ensures counted { R.rows_read rows.new + steps.old ≡ R.rows_read rows.old + steps.new }
     ensures words { R.words rows.new ≡ R.words rows.old }
     ensures shape { R.shape rows.new ≡ R.shape rows.old }
     ensures stays { R.stays rows.old rows.new }

@@ -19,6 +19,7 @@ pub fn at_leaf<R: Rows, L: Ledger>(rows: &mut R, leaf: u32, steps: &mut Steps<L>
     ensures leaf { result.leaf ≡ leaf }
     ensures next { (A : Anchors) → StandsFor (R.shape rows.old) (R.words rows.old) A → IsFollowed A leaf result.next }
     ensures cost { steps.new ≤ steps.old + 2 }
+    ensures counted { R.rows_read rows.new + steps.old ≡ R.rows_read rows.old + steps.new }
     ensures words { R.words rows.new ≡ R.words rows.old }
     ensures shape { R.shape rows.new ≡ R.shape rows.old }
     ensures stays { R.stays rows.old rows.new }
@@ -41,6 +42,7 @@ pub(crate) fn before_leaf<R: Rows, L: Ledger>(rows: &mut R, leaf: u32, steps: &m
     requires leaf { (A : Anchors) → StandsFor (R.shape rows.old) (R.words rows.old) A → (s : Span) × (span A leaf ≡ Some s) × (s.0 ≢ []) }
     ensures leaf { (A : Anchors) → StandsFor (R.shape rows.old) (R.words rows.old) A → result ≡ leaf_before A leaf }
     ensures cost { steps.new ≤ steps.old + 1 }
+    ensures counted { R.rows_read rows.new + steps.old ≡ R.rows_read rows.old + steps.new }
     ensures words { R.words rows.new ≡ R.words rows.old }
     ensures shape { R.shape rows.new ≡ R.shape rows.old }
     ensures stays { R.stays rows.old rows.new }

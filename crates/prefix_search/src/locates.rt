@@ -42,6 +42,7 @@ pub fn seek<R: Rows, L: Ledger>(
     ensures leaf { (A : Anchors) → StandsFor (R.shape rows.old) (R.words rows.old) A → result.leaf ≡ target A key.now }
     ensures hash { result.hash ≡ prefix_hash (R.shape rows.old).salt key.now }
     ensures cost { (A : Anchors) → StandsFor (R.shape rows.old) (R.words rows.old) A → (c : ℕ) → MostInBucket (R.shape rows.old) A c → steps.new ≤ steps.old + seek_bound A key.now c }
+    ensures counted { R.rows_read rows.new + steps.old ≡ R.rows_read rows.old + steps.new }
     ensures words { R.words rows.new ≡ R.words rows.old }
     ensures shape { R.shape rows.new ≡ R.shape rows.old }
     ensures stays { R.stays rows.old rows.new }
@@ -63,6 +64,7 @@ pub fn locate<R: Rows, L: Ledger>(rows: &mut R, key: &Key, steps: &mut Steps<L>)
     requires { IsTable (R.shape rows.old) (R.words rows.old) }
     ensures located { (A : Anchors) → StandsFor (R.shape rows.old) (R.words rows.old) A → IsLocated A key.now result }
     ensures cost { (A : Anchors) → StandsFor (R.shape rows.old) (R.words rows.old) A → (c : ℕ) → MostInBucket (R.shape rows.old) A c → steps.new ≤ steps.old + bound A key.now c }
+    ensures counted { R.rows_read rows.new + steps.old ≡ R.rows_read rows.old + steps.new }
     ensures words { R.words rows.new ≡ R.words rows.old }
     ensures shape { R.shape rows.new ≡ R.shape rows.old }
     ensures stays { R.stays rows.old rows.new }
@@ -90,6 +92,7 @@ fn leaf_from<R: Rows, L: Ledger>(
     requires longest { (A : Anchors) → StandsFor (R.shape rows.old) (R.words rows.old) A → IsLongestOf A key.now reached.now.len (item_at (R.shape rows.old) (R.words rows.old) reached.now.at) }
     ensures leaf { (A : Anchors) → StandsFor (R.shape rows.old) (R.words rows.old) A → result ≡ target A key.now }
     ensures cost { (A : Anchors) → StandsFor (R.shape rows.old) (R.words rows.old) A → (c : ℕ) → MostInBucket (R.shape rows.old) A c → steps.new ≤ steps.old + (c + 2) }
+    ensures counted { R.rows_read rows.new + steps.old ≡ R.rows_read rows.old + steps.new }
     ensures words { R.words rows.new ≡ R.words rows.old }
     ensures shape { R.shape rows.new ≡ R.shape rows.old }
     ensures stays { R.stays rows.old rows.new }

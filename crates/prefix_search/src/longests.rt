@@ -36,6 +36,7 @@ pub fn longest<R: Rows, L: Ledger>(rows: &mut R, key: &Key, steps: &mut Steps<L>
     requires { IsTable (R.shape rows.old) (R.words rows.old) }
     ensures longest { (A : Anchors) → StandsFor (R.shape rows.old) (R.words rows.old) A → IsLongestOf A key.now result.len result.item }
     ensures cost { (A : Anchors) → StandsFor (R.shape rows.old) (R.words rows.old) A → (c : ℕ) → MostInBucket (R.shape rows.old) A c → steps.new ≤ steps.old + (length_digits A key.now * c + 1) }
+    ensures counted { R.rows_read rows.new + steps.old ≡ R.rows_read rows.old + steps.new }
     ensures words { R.words rows.new ≡ R.words rows.old }
     ensures shape { R.shape rows.new ≡ R.shape rows.old }
     ensures stays { R.stays rows.old rows.new }
@@ -64,6 +65,7 @@ pub(crate) fn reach<R: Rows, L: Ledger>(
     ensures place { result.at < (R.shape rows.old).items }
     ensures longest { (A : Anchors) → StandsFor (R.shape rows.old) (R.words rows.old) A → IsLongestOf A key.now result.len (item_at (R.shape rows.old) (R.words rows.old) result.at) }
     ensures cost { (A : Anchors) → StandsFor (R.shape rows.old) (R.words rows.old) A → (c : ℕ) → MostInBucket (R.shape rows.old) A c → steps.new ≤ steps.old + length_digits A key.now * c }
+    ensures counted { R.rows_read rows.new + steps.old ≡ R.rows_read rows.old + steps.new }
     ensures words { R.words rows.new ≡ R.words rows.old }
     ensures shape { R.shape rows.new ≡ R.shape rows.old }
     ensures stays { R.stays rows.old rows.new }

@@ -18,6 +18,10 @@ joined header heads items leaves = header ++ heads ++ items ++ leaves
 abbrev pub words_of : VecRows → List ℕ
 words_of rows = joined rows.header rows.heads rows.items rows.leaves
 
+-- how many of its rows were read
+abbrev pub reads_of : VecRows → ℕ
+reads_of rows = rows.reads
+
 -- there are as many words as the shape says
 pub length-words_of : (rows : VecRows) → length (words_of rows) ≡ word_count (shape_of rows)
 unfolding joined

@@ -11,6 +11,7 @@ use crate::layout::{BYTES_PART, MARK_PART};
 pub(crate) fn anchor_begins<W: Words>(words: &mut W, leaf: u32, prefix: &[u8]) -> bool
     requires { IsLive (W.shape words.old) (W.words words.old) leaf }
     ensures value { IsTrue result ↔ (take (length prefix.now) (anchor_at (W.shape words.old) (W.words words.old) leaf) ≡ prefix.now) }
+    ensures read { W.rows_read words.new ≡ W.rows_read words.old }
     ensures words { W.words words.new ≡ W.words words.old }
     ensures shape { W.shape words.new ≡ W.shape words.old }
     ensures stays { W.stays words.old words.new }
@@ -26,6 +27,7 @@ pub(crate) fn anchor_begins<W: Words>(words: &mut W, leaf: u32, prefix: &[u8]) -
 pub(crate) fn anchor_goes_on<W: Words>(words: &mut W, leaf: u32, prefix: &[u8], byte: u8) -> bool
     requires { IsLive (W.shape words.old) (W.words words.old) leaf }
     ensures value { IsTrue result ↔ (take (length prefix.now + 1) (anchor_at (W.shape words.old) (W.words words.old) leaf) ≡ prefix.now ++ byte ∷ []) }
+    ensures read { W.rows_read words.new ≡ W.rows_read words.old }
     ensures words { W.words words.new ≡ W.words words.old }
     ensures shape { W.shape words.new ≡ W.shape words.old }
     ensures stays { W.stays words.old words.new }

@@ -24,6 +24,7 @@ pub fn glance_words<W: Words, L: Ledger>(
     requires word { word < 4 }
     ensures value { Glanced (W.shape words.old) (W.words words.old) at prefix.now hash word result }
     ensures steps { steps.new ≡ steps.old + 1 }
+    ensures read { W.rows_read words.new ≡ W.rows_read words.old + 1 }
     ensures words { W.words words.new ≡ W.words words.old }
     ensures shape { W.shape words.new ≡ W.shape words.old }
     ensures stays { W.stays words.old words.new }
@@ -57,6 +58,7 @@ pub fn child_words<W: Words, L: Ledger>(
     requires used { IsUsed (W.shape words.old) (W.words words.old) at }
     ensures value { ChildProbed (W.shape words.old) (W.words words.old) at (prefix.now ++ byte ∷ []) hash result }
     ensures steps { steps.new ≡ steps.old + 1 }
+    ensures read { W.rows_read words.new ≡ W.rows_read words.old + 1 }
     ensures words { W.words words.new ≡ W.words words.old }
     ensures shape { W.shape words.new ≡ W.shape words.old }
     ensures stays { W.stays words.old words.new }
@@ -83,6 +85,7 @@ pub fn item_words<W: Words, L: Ledger>(words: &mut W, at: u32, steps: &mut Steps
     requires { at < (W.shape words.old).items }
     ensures value { result ≡ item_at (W.shape words.old) (W.words words.old) at }
     ensures steps { steps.new ≡ steps.old + 1 }
+    ensures read { W.rows_read words.new ≡ W.rows_read words.old + 1 }
     ensures words { W.words words.new ≡ W.words words.old }
     ensures shape { W.shape words.new ≡ W.shape words.old }
     ensures stays { W.stays words.old words.new }

@@ -3,7 +3,7 @@
 ghost use Rattle.std.specs.Prelude.{◌≡◌, ◌+◌};
 ghost use Rattle.row_words.specs.Decode.{IsLive, anchor_at, previous_at, next_at};
 
-use crate::layout::{ANCHOR_WORDS, BYTES_PART, MARK_PART, NEXT_PART, PREVIOUS_PART, UPPER};
+use crate::layout::{ANCHOR_WORDS, BYTES_PART, MARK_PART, NEXT_PART, UPPER};
 use crate::{AnchorWords, LeafRow, Words};
 use std::sync::ledger::Ledger;
 use steps::Steps;
@@ -15,6 +15,7 @@ pub fn leaf_words<W: Words, L: Ledger>(words: &mut W, at: u32, steps: &mut Steps
     ensures previous { result.previous ≡ previous_at (W.shape words.old) (W.words words.old) at }
     ensures next { result.next ≡ next_at (W.shape words.old) (W.words words.old) at }
     ensures steps { steps.new ≡ steps.old + 1 }
+    ensures read { W.rows_read words.new ≡ W.rows_read words.old + 1 }
     ensures words { W.words words.new ≡ W.words words.old }
     ensures shape { W.shape words.new ≡ W.shape words.old }
     ensures stays { W.stays words.old words.new }
@@ -29,7 +30,7 @@ pub fn leaf_words<W: Words, L: Ledger>(words: &mut W, at: u32, steps: &mut Steps
     }
     LeafRow {
         anchor: AnchorWords { len, words: packed },
-        previous: (words.leaf_part(at, PREVIOUS_PART) % UPPER) as u32,
+        previous: (words.leaf_before(at) % UPPER) as u32,
         next: (words.leaf_part(at, NEXT_PART) % UPPER) as u32,
     }
 }
@@ -40,10 +41,11 @@ pub fn previous_words<W: Words, L: Ledger>(words: &mut W, at: u32, steps: &mut S
     requires live { IsLive (W.shape words.old) (W.words words.old) at }
     ensures value { result ≡ previous_at (W.shape words.old) (W.words words.old) at }
     ensures steps { steps.new ≡ steps.old + 1 }
+    ensures read { W.rows_read words.new ≡ W.rows_read words.old + 1 }
     ensures words { W.words words.new ≡ W.words words.old }
     ensures shape { W.shape words.new ≡ W.shape words.old }
     ensures stays { W.stays words.old words.new }
 {
     steps.tick();
-    (words.leaf_part(at, PREVIOUS_PART) % UPPER) as u32
+    (words.leaf_before(at) % UPPER) as u32
 }

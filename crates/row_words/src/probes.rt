@@ -21,6 +21,7 @@ pub fn probe_words<W: Words, L: Ledger>(
     requires used { IsUsed (W.shape words.old) (W.words words.old) at }
     ensures value { Probed (W.shape words.old) (W.words words.old) at prefix.now hash result }
     ensures steps { steps.new ≡ steps.old + 1 }
+    ensures read { W.rows_read words.new ≡ W.rows_read words.old + 1 }
     ensures words { W.words words.new ≡ W.words words.old }
     ensures shape { W.shape words.new ≡ W.shape words.old }
     ensures stays { W.stays words.old words.new }

@@ -65,7 +65,8 @@ pub enum ChildProbe {
 }
 
 /// All that a reader of a table has. No call changes a word, and a row is read only by a call that
-/// ticks a step. A reader may be lent by an owner who takes it back, so each call and each function
+/// ticks a step. Each such call also raises the number of rows read, which no caller can set: so a
+/// bound on it is one on the work, whatever counter the steps are told to. A reader may be lent by an owner who takes it back, so each call and each function
 /// over a reader also tells what `stays`: what else the owner finds as it was.
 pub trait Rows {
     ghost use Rattle.std.specs.Prelude.{List, ℕ, ◌≡◌, length};
@@ -77,7 +78,10 @@ pub trait Rows {
 
     ghost words: { Self → List ℕ };
 
-    // What each call leaves as it is beside the words and the shape.
+    // How many rows were read, items and leaf rows together.
+    ghost rows_read: { Self → ℕ };
+
+    // What each call leaves as it is beside the words, the shape and the number of rows read.
     ghost stays: { Self → Self → Type 0 };
 
     /// The number of buckets.
@@ -91,6 +95,7 @@ pub trait Rows {
     /// The length of the longest anchor, by the header.
     fn longest(&mut self) -> u32
         ensures value { result ≡ longest_at (words self.old) }
+        ensures read { rows_read self.new ≡ rows_read self.old }
         ensures words { words self.new ≡ words self.old }
         ensures shape { shape self.new ≡ shape self.old }
         ensures stays { stays self.old self.new };
@@ -99,6 +104,7 @@ pub trait Rows {
     fn head(&mut self, bucket: u32) -> u32
         requires { bucket < (shape self.old).heads }
         ensures value { result ≡ head_at (shape self.old) (words self.old) bucket }
+        ensures read { rows_read self.new ≡ rows_read self.old }
         ensures words { words self.new ≡ words self.old }
         ensures shape { shape self.new ≡ shape self.old }
         ensures stays { stays self.old self.new };
@@ -108,6 +114,7 @@ pub trait Rows {
         requires { IsUsed (shape self.old) (words self.old) at }
         ensures value { Probed (shape self.old) (words self.old) at prefix.now hash result }
         ensures steps { steps.new ≡ steps.old + 1 }
+        ensures read { rows_read self.new ≡ rows_read self.old + 1 }
         ensures words { words self.new ≡ words self.old }
         ensures shape { shape self.new ≡ shape self.old }
         ensures stays { stays self.old self.new };
@@ -125,6 +132,7 @@ pub trait Rows {
         requires word { word < 4 }
         ensures value { Glanced (shape self.old) (words self.old) at prefix.now hash word result }
         ensures steps { steps.new ≡ steps.old + 1 }
+        ensures read { rows_read self.new ≡ rows_read self.old + 1 }
         ensures words { words self.new ≡ words self.old }
         ensures shape { shape self.new ≡ shape self.old }
         ensures stays { stays self.old self.new };
@@ -143,6 +151,7 @@ pub trait Rows {
         requires { IsUsed (shape self.old) (words self.old) at }
         ensures value { ChildProbed (shape self.old) (words self.old) at (prefix.now ++ byte ∷ []) hash result }
         ensures steps { steps.new ≡ steps.old + 1 }
+        ensures read { rows_read self.new ≡ rows_read self.old + 1 }
         ensures words { words self.new ≡ words self.old }
         ensures shape { shape self.new ≡ shape self.old }
         ensures stays { stays self.old self.new };
@@ -152,6 +161,7 @@ pub trait Rows {
         requires { at < (shape self.old).items }
         ensures value { result ≡ item_at (shape self.old) (words self.old) at }
         ensures steps { steps.new ≡ steps.old + 1 }
+        ensures read { rows_read self.new ≡ rows_read self.old + 1 }
         ensures words { words self.new ≡ words self.old }
         ensures shape { shape self.new ≡ shape self.old }
         ensures stays { stays self.old self.new };
@@ -163,6 +173,7 @@ pub trait Rows {
         ensures previous { result.previous ≡ previous_at (shape self.old) (words self.old) at }
         ensures next { result.next ≡ next_at (shape self.old) (words self.old) at }
         ensures steps { steps.new ≡ steps.old + 1 }
+        ensures read { rows_read self.new ≡ rows_read self.old + 1 }
         ensures words { words self.new ≡ words self.old }
         ensures shape { shape self.new ≡ shape self.old }
         ensures stays { stays self.old self.new };
@@ -172,6 +183,7 @@ pub trait Rows {
         requires { IsLive (shape self.old) (words self.old) at }
         ensures value { result ≡ previous_at (shape self.old) (words self.old) at }
         ensures steps { steps.new ≡ steps.old + 1 }
+        ensures read { rows_read self.new ≡ rows_read self.old + 1 }
         ensures words { words self.new ≡ words self.old }
         ensures shape { shape self.new ≡ shape self.old }
         ensures stays { stays self.old self.new };

@@ -7,7 +7,7 @@ ghost use Rattle.row_words.specs.declared.layout.TheConstants.{HEADER_WORDS, ITE
 
 use crate::head_words::HeadWords;
 use crate::layout::{
-    BITS_PART, BYTES_PART, HEADER_WORDS, ITEM_WORDS, LEAF_WORDS, LONGEST_WORD, UPPER,
+    BITS_PART, BYTES_PART, HEADER_WORDS, ITEM_WORDS, LEAF_WORDS, LONGEST_WORD, PREVIOUS_PART, UPPER,
 };
 use crate::padded_words::PaddedWords;
 use crate::words::words_begin;
@@ -17,7 +17,7 @@ use crate::{
 };
 use std::alloc::{AllocError, Global};
 use std::sync::ledger::Ledger;
-use steps::Steps;
+use steps::{Steps, Tally};
 
 /// A table in vectors. When it is made, memory for all of its words is reserved, and only the header
 /// and the lower sixteen bits of the heads are written: two bytes for each bucket. A page of the items,
@@ -34,6 +34,8 @@ pub struct VecRows {
     heads: HeadWords,
     items: PaddedWords,
     leaves: PaddedWords,
+    // How many rows were read.
+    reads: Tally,
     ghost ranges: { IsShape shape },
     ghost header_sized: { length header ≡ HEADER_WORDS },
     ghost heads_sized: { length heads ≡ shape.heads },
@@ -58,6 +60,7 @@ impl VecRows {
             heads: HeadWords::new(alloc, shape.heads as usize)?,
             items: PaddedWords::new(alloc, (ITEM_WORDS * shape.items) as usize)?,
             leaves: PaddedWords::new(alloc, (LEAF_WORDS * shape.leaves) as usize)?,
+            reads: Tally::new(),
         })
     }
 }
@@ -65,13 +68,15 @@ impl VecRows {
 #[tactic(auto, unfolding(crate::specs::VecRows::joined))]
 impl LeafParts for VecRows {
     ghost use Rattle.row_words.specs.declared.vec_rows.VecRows.{VecRows};
-    ghost use Rattle.row_words.specs.VecRows.{shape_of, words_of};
+    ghost use Rattle.row_words.specs.VecRows.{shape_of, words_of, reads_of};
     ghost use Rattle.std.specs.Prelude.{◌≡◌, refl};
     ghost use Rattle.std.proofs.Common.{◌∙◌};
 
     ghost shape = { shape_of };
 
     ghost words = { words_of };
+
+    ghost rows_read = { reads_of };
 
     ghost stays = { λ a b. shape_of b ≡ shape_of a };
 
@@ -82,11 +87,18 @@ impl LeafParts for VecRows {
     fn leaf_part(&mut self, leaf: u32, word: u32) -> u64 {
         self.leaves.get((LEAF_WORDS * leaf + word) as usize)
     }
+
+    fn leaf_before(&mut self, leaf: u32) -> u64 {
+        self.reads = self.reads.and_one();
+        self.leaves
+            .get((LEAF_WORDS * leaf + PREVIOUS_PART) as usize)
+    }
 }
 
 #[tactic(auto, unfolding(crate::specs::VecRows::joined))]
 impl Words for VecRows {
     fn item_head(&mut self, at: u32) -> [u64; 3] {
+        self.reads = self.reads.and_one();
         self.items.three((ITEM_WORDS * at) as usize)
     }
 
@@ -110,13 +122,15 @@ impl Words for VecRows {
 
 #[tactic(auto, unfolding(crate::specs::VecRows::joined))]
 impl Rows for VecRows {
-    ghost use Rattle.row_words.specs.VecRows.{shape_of, words_of, length-words_of};
+    ghost use Rattle.row_words.specs.VecRows.{shape_of, words_of, reads_of, length-words_of};
     ghost use Rattle.std.specs.Prelude.{◌≡◌, refl};
     ghost use Rattle.std.proofs.Common.{◌∙◌};
 
     ghost shape = { shape_of };
 
     ghost words = { words_of };
+
+    ghost rows_read = { reads_of };
 
     ghost stays = { λ a b. shape_of b ≡ shape_of a };
 

@@ -1,12 +1,12 @@
 //! Words that can be read, wherever they lie.
 
-ghost use Rattle.std.specs.Prelude.{◌≡◌, ◌<◌, ◌≤◌, ◌+◌, ◌*◌, ◌/◌, ◌^◌, ◌%◌, ◌↔◌, ℕ, IsTrue, length, slice_index};
+ghost use Rattle.std.specs.Prelude.{◌≡◌, ◌≢◌, ◌<◌, ◌≤◌, ◌+◌, ◌*◌, ◌/◌, ◌^◌, ◌%◌, ◌↔◌, ℕ, IsTrue, length, slice_index};
 ghost use Rattle.row_words.specs.Bytes.{bytes_from};
 ghost use Rattle.row_words.specs.Layout.{leaf_word};
 
 use crate::anchor_words::{whole_four, whole_word};
 use crate::layout::{
-    BYTES_PART, ITEM_WORDS, LEAF_WORDS, LINK_PART, LONGEST_ANCHOR, SIDES_PART, UPPER,
+    BYTES_PART, ITEM_WORDS, LEAF_WORDS, LINK_PART, LONGEST_ANCHOR, PREVIOUS_PART, SIDES_PART, UPPER,
 };
 
 /// Leaf rows whose words can be read. No call changes a word, and each tells what `stays`.
@@ -15,7 +15,7 @@ use crate::layout::{
 /// has [`crate::Rows`] alone. They are what a table offers to [`crate::leaf_words`] and
 /// [`crate::probe_words`], which tick for it.
 pub trait LeafParts {
-    ghost use Rattle.std.specs.Prelude.{List, ℕ, ◌≡◌, ◌<◌, ◌+◌, slice_index};
+    ghost use Rattle.std.specs.Prelude.{List, ℕ, ◌≡◌, ◌≢◌, ◌<◌, ◌+◌, slice_index};
     ghost use Rattle.row_words.specs.declared.shape.Shape.{Shape};
     ghost use Rattle.row_words.specs.Layout.{leaf_word};
 
@@ -23,14 +23,28 @@ pub trait LeafParts {
 
     ghost words: { Self → List ℕ };
 
-    // What each call leaves as it is beside the words and the shape.
+    // How many rows were read.
+    ghost rows_read: { Self → ℕ };
+
+    // What each call leaves as it is beside the words, the shape and the number of rows read.
     ghost stays: { Self → Self → Type 0 };
 
-    /// A word of a leaf's row.
+    /// A word of a leaf's row, but not that of the leaf before it.
     fn leaf_part(&mut self, leaf: u32, word: u32) -> u64
         requires leaf { leaf < (shape self.old).leaves }
         requires word { word < LEAF_WORDS }
+        requires inner { word ≢ PREVIOUS_PART }
         ensures value { result ≡ slice_index (words self.old) (leaf_word (shape self.old) leaf + word) }
+        ensures read { rows_read self.new ≡ rows_read self.old }
+        ensures words { words self.new ≡ words self.old }
+        ensures shape { shape self.new ≡ shape self.old }
+        ensures stays { stays self.old self.new };
+
+    /// The word of a leaf's row that names the leaf before it. By this word the row counts as read.
+    fn leaf_before(&mut self, leaf: u32) -> u64
+        requires { leaf < (shape self.old).leaves }
+        ensures value { result ≡ slice_index (words self.old) (leaf_word (shape self.old) leaf + PREVIOUS_PART) }
+        ensures read { rows_read self.new ≡ rows_read self.old + 1 }
         ensures words { words self.new ≡ words self.old }
         ensures shape { shape self.new ≡ shape self.old }
         ensures stays { stays self.old self.new };
@@ -48,25 +62,28 @@ pub trait LeafParts {
 /// As with [`LeafParts`], no read ticks a step, so this isn't for readers of rows: it is for the
 /// implementor of [`crate::Rows`].
 pub trait Words: LeafParts {
-    ghost use Rattle.std.specs.Prelude.{[], ◌∷◌, ◌≡◌, ◌<◌, ◌+◌, ◌↔◌, IsTrue, length, slice_index};
+    ghost use Rattle.std.specs.Prelude.{[], ◌∷◌, ◌≡◌, ◌≢◌, ◌<◌, ◌+◌, ◌↔◌, IsTrue, length, slice_index};
     ghost use Rattle.row_words.specs.Bytes.{bytes_from};
     ghost use Rattle.row_words.specs.Layout.{item_word, leaf_word};
     ghost use Rattle.row_words.specs.Decode.{item_at};
 
     /// The first three words of the item at a place: those of its hash, of its link and length, and of
-    /// its leaves.
+    /// its leaves. By the first one the row counts as read.
     fn item_head(&mut self, at: u32) -> [u64; 3]
         requires { at < (Self.shape self.old).items }
         ensures value { result ≡ slice_index (Self.words self.old) (item_word (Self.shape self.old) at) ∷ slice_index (Self.words self.old) (item_word (Self.shape self.old) at + LINK_PART) ∷ slice_index (Self.words self.old) (item_word (Self.shape self.old) at + SIDES_PART) ∷ [] }
+        ensures read { Self.rows_read self.new ≡ Self.rows_read self.old + 1 }
         ensures words { Self.words self.new ≡ Self.words self.old }
         ensures shape { Self.shape self.new ≡ Self.shape self.old }
         ensures stays { Self.stays self.old self.new };
 
-    /// A word of the item at a place.
+    /// A word of the item at a place, but not the first one.
     fn item_part(&mut self, at: u32, word: u32) -> u64
         requires at { at < (Self.shape self.old).items }
         requires word { word < ITEM_WORDS }
+        requires inner { word ≢ 0 }
         ensures value { result ≡ slice_index (Self.words self.old) (item_word (Self.shape self.old) at + word) }
+        ensures read { Self.rows_read self.new ≡ Self.rows_read self.old }
         ensures words { Self.words self.new ≡ Self.words self.old }
         ensures shape { Self.shape self.new ≡ Self.shape self.old }
         ensures stays { Self.stays self.old self.new };
@@ -75,6 +92,7 @@ pub trait Words: LeafParts {
     fn item_bits(&mut self, at: u32) -> [u64; 4]
         requires { at < (Self.shape self.old).items }
         ensures value { result ≡ (item_at (Self.shape self.old) (Self.words self.old) at).bits }
+        ensures read { Self.rows_read self.new ≡ Self.rows_read self.old }
         ensures words { Self.words self.new ≡ Self.words self.old }
         ensures shape { Self.shape self.new ≡ Self.shape self.old }
         ensures stays { Self.stays self.old self.new };
@@ -84,6 +102,7 @@ pub trait Words: LeafParts {
         requires leaf { leaf < (Self.shape self.old).leaves }
         requires short { length bytes.now < LONGEST_ANCHOR + 1 }
         ensures value { IsTrue result ↔ (bytes_from (Self.words self.old) (leaf_word (Self.shape self.old) leaf + BYTES_PART) (length bytes.now) ≡ bytes.now) }
+        ensures read { Self.rows_read self.new ≡ Self.rows_read self.old }
         ensures words { Self.words self.new ≡ Self.words self.old }
         ensures shape { Self.shape self.new ≡ Self.shape self.old }
         ensures stays { Self.stays self.old self.new };
@@ -95,6 +114,7 @@ pub fn begins<W: LeafParts>(words: &mut W, leaf: u32, bytes: &[u8]) -> bool
     requires leaf { leaf < (W.shape words.old).leaves }
     requires short { length bytes.now < LONGEST_ANCHOR + 1 }
     ensures value { IsTrue result ↔ (bytes_from (W.words words.old) (leaf_word (W.shape words.old) leaf + BYTES_PART) (length bytes.now) ≡ bytes.now) }
+    ensures read { W.rows_read words.new ≡ W.rows_read words.old }
     ensures words { W.words words.new ≡ W.words words.old }
     ensures shape { W.shape words.new ≡ W.shape words.old }
     ensures stays { W.stays words.old words.new }

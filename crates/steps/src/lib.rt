@@ -1,10 +1,13 @@
-//! A counter of steps that takes no bytes, for bounds on the work of a call.
+//! Counters that take no bytes, for bounds on the work of a call.
 #![tactic(auto)]
+
+mod tally;
 
 ghost use Rattle.std.specs.Prelude.{◌≡◌, ◌+◌, ◌<◌};
 
 use std::marker::Model;
 use std::sync::ledger::{Blank, Book, Ledger, Share};
+pub use tally::Tally;
 
 /// How many steps were taken, for any ledger `L`. Only [`Steps::tick`] changes the number, and
 /// only contracts see it: at run time there is nothing to count with. Which operation ticks is

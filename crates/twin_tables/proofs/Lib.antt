@@ -1,2 +1,3 @@
 pub mod Viewing
 pub mod Turning
+pub mod Reading

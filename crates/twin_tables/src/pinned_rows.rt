@@ -5,11 +5,12 @@ ghost use Rattle.row_words.specs.Layout as layout;
 ghost use Rattle.board_rule.specs.Passes.{view, IsOf};
 ghost use Rattle.board_rule.specs.Steps.{pin_of};
 ghost use Rattle.twin_tables.specs.Views.{OnlyPin};
-ghost use Rattle.twin_tables.specs.Lent.{pinned_view, pinned_shape, pinned_words, PinnedStays};
+ghost use Rattle.twin_tables.specs.Reads.{read_at};
+ghost use Rattle.twin_tables.specs.Lent.{pinned_view, pinned_shape, pinned_words, pinned_read, PinnedStays};
 
 use crate::pinned::Pinned;
 use board_rule::{Pass, read, unpin};
-use row_words::layout::HEADER_WORDS;
+use row_words::layout::{HEADER_WORDS, PREVIOUS_PART};
 use row_words::{
     ChildProbe, Glance, ItemRow, LeafParts, LeafRow, Probe, Rows, Words, begins, child_words,
     glance_words, item_words, leaf_words, previous_words, probe_words,
@@ -61,6 +62,7 @@ impl<'a> Pinned<'a> {
     fn load(&mut self, i: u32) -> u64
         requires { i < layout.word_count (pinned_shape self.old) }
         ensures value { result ≡ slice_index (pinned_words self.old) i }
+        ensures read { pinned_read self.new ≡ pinned_read self.old + read_at (pinned_shape self.old) i }
         ensures words { pinned_words self.new ≡ pinned_words self.old }
         ensures shape { pinned_shape self.new ≡ pinned_shape self.old }
         ensures stays { PinnedStays self.old self.new }
@@ -70,12 +72,14 @@ impl<'a> Pinned<'a> {
 }
 
 impl<'a> LeafParts for Pinned<'a> {
-    ghost use Rattle.twin_tables.specs.Lent.{pinned_shape, pinned_words, PinnedStays};
+    ghost use Rattle.twin_tables.specs.Lent.{pinned_shape, pinned_words, pinned_read, PinnedStays};
     ghost use Rattle.twin_tables.specs.Lending.{pinned_same, pinned_on};
 
     ghost shape = { pinned_shape };
 
     ghost words = { pinned_words };
+
+    ghost rows_read = { pinned_read };
 
     ghost stays = { PinnedStays };
 
@@ -86,6 +90,11 @@ impl<'a> LeafParts for Pinned<'a> {
     fn leaf_part(&mut self, leaf: u32, word: u32) -> u64 {
         let first = self.board.shape().leaf_word(leaf);
         self.load(first + word)
+    }
+
+    fn leaf_before(&mut self, leaf: u32) -> u64 {
+        let first = self.board.shape().leaf_word(leaf);
+        self.load(first + PREVIOUS_PART)
     }
 }
 
@@ -118,12 +127,14 @@ impl<'a> Words for Pinned<'a> {
 }
 
 impl<'a> Rows for Pinned<'a> {
-    ghost use Rattle.twin_tables.specs.Lent.{pinned_shape, pinned_words, PinnedStays};
+    ghost use Rattle.twin_tables.specs.Lent.{pinned_shape, pinned_words, pinned_read, PinnedStays};
     ghost use Rattle.twin_tables.specs.Lending.{pinned_same, pinned_on, pinned_ranges, pinned_sized};
 
     ghost shape = { pinned_shape };
 
     ghost words = { pinned_words };
+
+    ghost rows_read = { pinned_read };
 
     ghost stays = { PinnedStays };
 

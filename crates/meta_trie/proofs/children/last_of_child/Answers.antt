@@ -50,6 +50,7 @@ loop-rightmost-init g c =
     let goes = walk_goes _ _ (item A) _ name _ _ _ _ (walk_start (g.R.Rows.shape c.args.rows.now) (g.R.Rows.words c.args.rows.now) (item A) s.trie name 0) known.0 known.1 in
     record {
       words = c.head-link.ensures.words;
+      counted = omega (arith, c.head-link.ensures.read);
       shape = c.head-link.ensures.shape;
       stays = c.head-link.ensures.stays;
       some = λ none. goes (sym link ∙ none);
@@ -73,6 +74,7 @@ loop-rightmost-preserved g c =
     let p = subst (λ (z : Shape × List ℕ). ChildProbed z.0 z.1 (c.loop-rightmost.link - 1) name c.args.hash (Further c.in-Further.next)) (λ i. (shape i, words i)) c.in-Further.ensures.value in
     record {
       words = c.probe_child.ensures.words ∙ inv.words;
+      counted = omega (arith, c.probe_child.ensures.read, c.probe_child.ensures.steps, inv.counted);
       shape = c.probe_child.ensures.shape ∙ inv.shape;
       stays = g.met.R.Rows.stays_trans _ _ _ inv.stays c.probe_child.ensures.stays;
       some = p.1;

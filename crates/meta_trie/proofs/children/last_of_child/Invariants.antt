@@ -9,6 +9,7 @@ use Rattle.meta_trie.proofs.children.last_of_child.Given as goal
 abbrev pub invariant-loop-rightmost : goal.invariant-loop-rightmost
 invariant-loop-rightmost g l = record {
   words : g.R.Rows.words l.rows ≡ g.R.Rows.words l.fn.rows;
+  counted : g.R.Rows.rows_read l.rows + l.fn.steps ≡ g.R.Rows.rows_read l.fn.rows + l.steps;
   shape : g.R.Rows.shape l.rows ≡ g.R.Rows.shape l.fn.rows;
   stays : g.R.Rows.stays l.fn.rows l.rows;
   some : l.link ≢ 0;

@@ -20,6 +20,7 @@ loop-link-init g c =
     let link : c.head-link.result ≡ head_at (g.R.Rows.shape c.args.rows.now) (g.R.Rows.words c.args.rows.now) (bucket_of (g.R.Rows.shape c.args.rows.now) c.args.prefix.now) = cc in
     record {
       words = c.head-link.ensures.words;
+      counted = omega (arith, c.head-link.ensures.read);
       shape = c.head-link.ensures.shape;
       stays = c.head-link.ensures.stays;
       walk = λ known h. rw link (walk_start _ _ known h c.args.prefix.now _);
@@ -35,6 +36,7 @@ loop-link-preserved g c =
     let p = rw (c.loop-link.invariant.shape, c.loop-link.invariant.words) at c.in-Other.ensures.value in
     record {
       words = c.probe.ensures.words ∙ c.loop-link.invariant.words;
+      counted = omega (arith, c.probe.ensures.read, c.probe.ensures.steps, c.loop-link.invariant.counted);
       shape = c.probe.ensures.shape ∙ c.loop-link.invariant.shape;
       stays = g.met.R.Rows.stays_trans _ _ _ c.loop-link.invariant.stays c.probe.ensures.stays;
       walk = λ known h. rw (p.0, c.probe.ensures.steps) (walk_more _ _ known _ _ _ _ _ _ (c.loop-link.invariant.walk known h) c.loop-link-test.true (λ of. p.1 (rw c.requires.hash of)));

@@ -7,6 +7,7 @@ use Rattle.meta_trie.proofs.finds.find.Given as goal
 abbrev pub invariant-loop-link : goal.invariant-loop-link
 invariant-loop-link g l = record {
   words : g.R.Rows.words l.rows ≡ g.R.Rows.words l.fn.rows;
+  counted : g.R.Rows.rows_read l.rows + l.fn.steps ≡ g.R.Rows.rows_read l.fn.rows + l.steps;
   shape : g.R.Rows.shape l.rows ≡ g.R.Rows.shape l.fn.rows;
   stays : g.R.Rows.stays l.fn.rows l.rows;
   walk : (known : List ℕ → Option Item) (h : Holds (g.R.Rows.shape l.fn.rows) (g.R.Rows.words l.fn.rows) known) → Walk (g.R.Rows.shape l.fn.rows) (g.R.Rows.words l.fn.rows) known (h.buckets (bucket_of (g.R.Rows.shape l.fn.rows) l.prefix)) l.prefix l.link l.before l.steps (l.fn.steps + length (h.buckets (bucket_of (g.R.Rows.shape l.fn.rows) l.prefix)));

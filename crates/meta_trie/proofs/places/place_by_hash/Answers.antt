@@ -33,6 +33,7 @@ loop-link-init g c =
     let link : c.head-link.result ≡ head_at (g.R.Rows.shape c.args.rows.now) (g.R.Rows.words c.args.rows.now) (bucket_of (g.R.Rows.shape c.args.rows.now) c.args.prefix.now) = cc in
     record {
       words = c.head-link.ensures.words;
+      counted = omega (arith, c.head-link.ensures.read);
       shape = c.head-link.ensures.shape;
       stays = c.head-link.ensures.stays;
       walk = λ A s. (0, rw link (walk_start _ _ (item A) s.trie c.args.prefix.now _));
@@ -50,6 +51,7 @@ loop-link-preserved g c =
     let p = rw (c.loop-link.invariant.shape, c.loop-link.invariant.words) at c.in-Miss.ensures.value in
     record {
       words = c.glance.ensures.words ∙ c.loop-link.invariant.words;
+      counted = omega (arith, c.glance.ensures.read, c.glance.ensures.steps, c.loop-link.invariant.counted);
       shape = c.glance.ensures.shape ∙ c.loop-link.invariant.shape;
       stays = g.met.R.Rows.stays_trans _ _ _ c.loop-link.invariant.stays c.glance.ensures.stays;
       walk = λ A s. let w = c.loop-link.invariant.walk A s in (c.loop-link.link, rw (p.0, c.glance.ensures.steps) (walk_more _ _ (item A) _ _ _ _ _ _ w.1 c.loop-link-test.true (λ of. p.1 (rw c.requires.hash of))));

@@ -19,6 +19,7 @@ returns-in_default g c = record {
   first = λ none A s. record { leaf = c.at_leaf.ensures.leaf ∙ sym (first_target A s.anchors s.zero); next = rw c.at_leaf.ensures.leaf (c.at_leaf.ensures.next A s) };
   key_cost = λ key at. absurd (c.in_default.not-At key at);
   first_cost = λ none. c.at_leaf.ensures.cost;
+  counted = c.at_leaf.ensures.counted;
   words = c.at_leaf.ensures.words;
   shape = c.at_leaf.ensures.shape;
   stays = c.at_leaf.ensures.stays;

@@ -22,6 +22,7 @@ pub loop-low-init : goal.loop-low-init
 loop-low-init g c =
     record {
       words = c.longest-most.ensures.words;
+      counted = omega (arith, c.longest-most.ensures.read);
       shape = c.longest-most.ensures.shape;
       stays = c.longest-most.ensures.stays;
       low_high = omega arith;
@@ -45,6 +46,7 @@ loop-low-preserved-then-not-goes_on g c =
     let cost = rw (c.loop-low.invariant.shape, c.loop-low.invariant.words) at c.place_by_hash.ensures.cost in
     record {
       words = c.place_by_hash.ensures.words ∙ c.loop-low.invariant.words;
+      counted = omega (arith, c.place_by_hash.ensures.counted, c.loop-low.invariant.counted);
       shape = c.place_by_hash.ensures.shape ∙ c.loop-low.invariant.shape;
       stays = g.met.R.Rows.stays_trans _ _ _ c.loop-low.invariant.stays c.place_by_hash.ensures.stays;
       low_high = omega arith;
@@ -67,6 +69,7 @@ loop-low-preserved-else-not-goes_on g c =
     let cost = rw (c.loop-low.invariant.shape, c.loop-low.invariant.words) at c.place_by_hash.ensures.cost in
     record {
       words = c.place_by_hash.ensures.words ∙ c.loop-low.invariant.words;
+      counted = omega (arith, c.loop-low.invariant.counted, c.place_by_hash.ensures.counted);
       shape = c.place_by_hash.ensures.shape ∙ c.loop-low.invariant.shape;
       stays = g.met.R.Rows.stays_trans _ _ _ c.loop-low.invariant.stays c.place_by_hash.ensures.stays;
       low_high = omega arith;
@@ -84,6 +87,7 @@ loop-low-preserved g c =
     let cost = rw (c.loop-low.invariant.shape, c.loop-low.invariant.words) at c.place_by_hash.ensures.cost in
     record {
       words = c.place_by_hash.ensures.words ∙ c.loop-low.invariant.words;
+      counted = (let read = c.place_by_hash.ensures.counted in omega (arith, read, c.loop-low.invariant.counted));
       shape = c.place_by_hash.ensures.shape ∙ c.loop-low.invariant.shape;
       stays = g.met.R.Rows.stays_trans _ _ _ c.loop-low.invariant.stays c.place_by_hash.ensures.stays;
       low_high = omega arith;

@@ -11,6 +11,7 @@ use Rattle.prefix_search.proofs.longests.reach.Given as goal
 abbrev pub invariant-loop-low : goal.invariant-loop-low
 invariant-loop-low g l = record {
   words : g.R.Rows.words l.rows ≡ g.R.Rows.words l.fn.rows;
+  counted : g.R.Rows.rows_read l.rows + l.fn.steps ≡ g.R.Rows.rows_read l.fn.rows + l.steps;
   shape : g.R.Rows.shape l.rows ≡ g.R.Rows.shape l.fn.rows;
   stays : g.R.Rows.stays l.fn.rows l.rows;
   low_high : l.low ≤ l.high;

@@ -23,7 +23,7 @@ use denote.Triple.Entry.{alive}
 use denote.Triple.Spec.{Meets, triple_of}
 use denote.Triple.Table.{entered}
 use denote.Triple.Walked.{says, Stays, walk_of, ends_at, walked, walk_Meets}
-use Rattle.told_bytes.proofs.Empty.{empty, empty_made}
+use Rattle.steps.proofs.Empty.{empty, empty_made}
 use Rattle.told_bytes.specs.contracts.Trace as Trace
 use Rattle.told_bytes.specs.contracts.Trace.new as F
 use Rattle.told_bytes.specs.contracts.Trace.new.Key.{name as #self}
