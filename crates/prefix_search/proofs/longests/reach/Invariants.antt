@@ -8,6 +8,8 @@ use Rattle.prefix_search.specs.Search.{Tells, length_digits}
 use Rattle.prefix_search.proofs.Digits.{Left}
 use Rattle.prefix_search.proofs.longests.reach.Given as goal
 
+-- No longer length has an item, and the binary digits of the lengths that are left pay for the looks to come.
+-- As many rows were read as steps were counted.
 abbrev pub invariant-loop-low : goal.invariant-loop-low
 invariant-loop-low g l = record {
   words : g.R.Rows.words l.rows ≡ g.R.Rows.words l.fn.rows;
