@@ -1,3 +1,4 @@
 pub mod Viewing
 pub mod Turning
+pub mod Sweeping
 pub mod Reading

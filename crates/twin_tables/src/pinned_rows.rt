@@ -37,9 +37,8 @@ impl<'a> Pinned<'a> {
         ensures current { (view result.now).current ≡ (pinned_view self.entry).current }
     {
         let board = self.board;
-        let table = self.table;
         let pass = self.into_pass();
-        unpin(pass, board, table);
+        unpin(pass, board);
         pass
     }
 
@@ -52,7 +51,6 @@ impl<'a> Pinned<'a> {
             pass,
             board: _,
             version: _,
-            table: _,
             first: _,
         } = self;
         pass
