@@ -130,8 +130,8 @@ module _ (k : Shape) (version lane : ℕ) (v : View) (turn : HasTurn version v) 
           few = omega (arith, s.many, low);
           free = s.free;
           look = is-w ∙ (ap (λ (y : View). record y { looks = y.looks ++ (pin_word lane, x) ∷ []; swept = lane }) at-u
-          ∙ ((λ i. record v { looks = looks_on x i; swept = sym s.many i; spare = ((s.ahead low).0 ∙ sym bare) i })
-          ∙ ap (λ (z : ℕ). swept_view (sweep_looks 0 s.found ++ (pin_word (length s.found), z) ∷ []) (length s.found) v.spare v) hit));
+              ∙ ((λ i. record v { looks = looks_on x i; swept = sym s.many i; spare = ((s.ahead low).0 ∙ sym bare) i })
+              ∙ ap (λ (z : ℕ). swept_view (sweep_looks 0 s.found ++ (pin_word (length s.found), z) ∷ []) (length s.found) v.spare v) hit));
         }
 
     -- but a view that is sole and has no pin finds no pin

@@ -34,6 +34,7 @@ impl<'a> Pinned<'a> {
         ensures bare { (view result.now).pin ≡ None }
         ensures only { OnlyPin (pinned_view self.entry) (view result.now) }
         ensures notes { (view result.now).notes ≡ (pinned_view self.entry).notes }
+        ensures looks { (view result.now).looks ≡ (pinned_view self.entry).looks }
         ensures current { (view result.now).current ≡ (pinned_view self.entry).current }
     {
         let board = self.board;

@@ -1,4 +1,4 @@
-use Rattle.std.proofs.Common.{◌≡◌, ℕ, ◌+◌, [], ◌∷◌, ◌++◌, refl, sym, ap, ◌∙◌}
+use Rattle.std.proofs.Common.{◌≡◌, ℕ, ◌+◌, [], ◌∷◌, ◌++◌, refl, ap, ◌∙◌}
 use Rattle.board_rule.specs.declared.view.View.{View}
 use Rattle.board_rule.specs.Rule.{table_at}
 use Rattle.board_rule.specs.Passes.{view}
@@ -15,7 +15,7 @@ returns-clause-read c =
     let k = pinned_shape s in
     let v = pinned_view s in
     let table = table_at k (pin_of v).table in
-    let first : s.first ≡ table = s.first_is ∙ ap (table_at k) (sym s.table_is) in
+    let first : s.first ≡ table = s.first_is in
     ap (λ (u : View). read_by k (table_at k (pin_of u).table) u.looks) c.read.ensures.view
     ∙ (ap (λ (n : ℕ). read_by k table (v.looks ++ (n + c.args.i, c.read.result) ∷ [])) first ∙ read-more k table c.args.i c.read.result v.looks)
 
@@ -27,7 +27,7 @@ returns-clause-stays c =
     let w = view c.read.new.pass in
     let t = (pin_of v).table in
     let e = c.read.ensures.view in
-    let first : s.first ≡ table_at k t = s.first_is ∙ ap (table_at k) (sym s.table_is) in
+    let first : s.first ≡ table_at k t = s.first_is in
     record {
       name = refl;
       board = refl;
