@@ -1,7 +1,7 @@
 //! The calls of the index with a counter of steps that nobody reads, each with a look behind it at the
 //! lanes given, by which all that the pass has seen is known to be of the index's lanes.
 
-ghost use Rattle.std.specs.Prelude.{◌≡◌, ◌≢◌, ◌<◌, ◌≤◌, ◌++◌, List, [], true, IsSome, IfOk, IfErr, OnErr, IsTrue, length};
+ghost use Rattle.std.specs.Prelude.{◌≡◌, ◌≢◌, ◌<◌, ◌≤◌, ◌++◌, List, [], true, IsSome, IfOk, IfErr, OnErr, IsTrue, length, max};
 ghost use Rattle.std.specs.Bool.{OnFalse};
 ghost use Rattle.key_bytes.specs.Bound.{bound_cmp};
 ghost use Rattle.map_model.specs.Calls.{Get, Put, Del, Part, Pairs};
@@ -12,6 +12,7 @@ ghost use Rattle.board_rule.specs.Views.{GIVEN, looked};
 ghost use Rattle.board_rule.specs.Passes.{lane_of, view, IsOf};
 ghost use Rattle.worm_index.specs.Idle.{IsSamePass};
 ghost use Rattle.worm_index.specs.Calls.{IsAnswered, IsLast, IsUnanswered};
+ghost use Rattle.worm_index.specs.Parts.{IsFewEnd};
 ghost use Rattle.index_lane.specs.Steady.{IsSteady, AreOfLanes};
 ghost use Rattle.index_lane.specs.Causes.{Fits, IsRefused};
 
@@ -62,7 +63,7 @@ pub(crate) fn get<L: Ledger>(
     ensures absent { IfOk result (λ there. OnFalse there (out.new.items ≡ [])) }
     ensures unanswered { OnErr result (IsUnanswered (lane_of pass.old.lane) (view pass.old) (view pass.new)) }
     ensures cleared { OnErr result (out.new.items ≡ []) }
-    ensures cause { IfErr result (IsRefused index.now.board.shape (lane_of pass.old.lane) (view pass.old) (view pass.new)) }
+    ensures cause { IfErr result (IsRefused index.now.board.shape (lane_of pass.old.lane) (Get key.now) (view pass.old) (view pass.new)) }
     ensures sole { IsTrue (view pass.old).sole → NotAgain result }
     ensures room { NotFull result }
 {
@@ -104,7 +105,7 @@ pub(crate) fn put<L: Ledger>(
     ensures same { IsSamePass (view pass.old) (view pass.new) }
     ensures answered { IfOk result (λ first. IsAnswered (lane_of pass.old.lane) (Put key.now value.now) (was_put first) (view pass.old) (view pass.new)) }
     ensures unanswered { OnErr result (IsUnanswered (lane_of pass.old.lane) (view pass.old) (view pass.new)) }
-    ensures cause { IfErr result (IsRefused index.now.board.shape (lane_of pass.old.lane) (view pass.old) (view pass.new)) }
+    ensures cause { IfErr result (IsRefused index.now.board.shape (lane_of pass.old.lane) (Put key.now value.now) (view pass.old) (view pass.new)) }
     ensures sole { IsTrue (view pass.old).sole → NotAgain result }
     ensures room { IsTrue (view pass.old).sole → (more : List Entry) → Fits index.now.board.shape ((view pass.old).seen ++ more) → NotFull result }
 {
@@ -149,7 +150,7 @@ pub(crate) fn del<L: Ledger>(
     ensures same { IsSamePass (view pass.old) (view pass.new) }
     ensures answered { IfOk result (λ gone. IsAnswered (lane_of pass.old.lane) (Del key.now) (was_gone gone) (view pass.old) (view pass.new)) }
     ensures unanswered { OnErr result (IsUnanswered (lane_of pass.old.lane) (view pass.old) (view pass.new)) }
-    ensures cause { IfErr result (IsRefused index.now.board.shape (lane_of pass.old.lane) (view pass.old) (view pass.new)) }
+    ensures cause { IfErr result (IsRefused index.now.board.shape (lane_of pass.old.lane) (Del key.now) (view pass.old) (view pass.new)) }
     ensures sole { IsTrue (view pass.old).sole → NotAgain result }
     ensures room { NotFull result }
 {
@@ -190,9 +191,10 @@ pub(crate) fn part<L: Ledger>(
     ensures last { IfOk result (λ upto. IsLast (lane_of pass.old.lane) (Part from.now upto) (Pairs page.new.pairs) (view pass.old) (view pass.new)) }
     ensures above { IfOk result (λ upto. bound_cmp from.now upto ≡ Ordering.Less) }
     ensures within { IfOk result (λ upto. bound_cmp upto to.now ≢ Ordering.Greater) }
+    ensures end { IfOk result (λ upto. IsFewEnd from.now to.now (max page.old.wanted 1) page.new.pairs (view pass.old) (view pass.new) upto) }
     ensures unanswered { OnErr result (IsUnanswered (lane_of pass.old.lane) (view pass.old) (view pass.new)) }
     ensures cleared { OnErr result (page.new.pairs ≡ []) }
-    ensures cause { IfErr result (IsRefused index.now.board.shape (lane_of pass.old.lane) (view pass.old) (view pass.new)) }
+    ensures cause { IfErr result (IsRefused index.now.board.shape (lane_of pass.old.lane) (Part from.now to.now) (view pass.old) (view pass.new)) }
     ensures sole { IsTrue (view pass.old).sole → NotAgain result }
     ensures room { NotFull result }
 {

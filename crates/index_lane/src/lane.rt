@@ -1,16 +1,24 @@
 //! A lane as a store.
 
-ghost use Rattle.std.specs.Prelude.{◌≡◌, ◌+◌, ◌-◌, [], true, Some, None, IsSome};
+ghost use Rattle.std.specs.Prelude.{◌≡◌, ◌≢◌, ◌+◌, ◌-◌, List, [], true, Some, None, IsSome, IfOk, OnErr, IsTrue, max};
+ghost use Rattle.key_bytes.specs.Bound.{bound_cmp};
+ghost use Rattle.map_model.specs.Calls.{Part, Pairs};
+ghost use Rattle.map_model.specs.History.{Entry};
+ghost use Rattle.map_model.specs.Ordered.{Follows, EntersLast, Stays};
+ghost use Rattle.map_model.specs.Refusals.{HasCause, refusal_of, NotAgain, NotFull};
+ghost use Rattle.lane_facts.specs.Names.{origin_of};
 ghost use Rattle.board_rule.specs.Passes.{lane_of, view, IsOf};
 ghost use Rattle.worm_index.specs.Idle.{IsIdle};
+ghost use Rattle.worm_index.specs.Parts.{IsFewEnd};
 ghost use Rattle.index_lane.specs.Steady.{IsSteady, steady_prop};
-ghost use Rattle.index_lane.specs.Causes.{IsNoted};
+ghost use Rattle.index_lane.specs.Causes.{Fits, IsNoted, IsRefused};
 
 use crate::calls;
 use board_rule::Pass;
 use counts::raise;
 use key_bytes::{Bound, Key};
 use map_model::{ForkFault, Lanes, Ordered, Page, Refusal};
+use std::cmp::Ordering;
 use std::marker::Brand;
 use std::sync::ledger::Blank;
 use worm_index::{Index, end, fork};
@@ -65,6 +73,19 @@ impl<'i> Lane<'i> {
         pass
     }
 
+    /// The lane's pass, its count of refusals and the last of them.
+    pub fn into_parts(self) -> (Pass, u64, Option<Refusal>)
+        ensures { result ≡ (self.entry.pass, self.entry.refusals, self.entry.last) }
+    {
+        let Lane {
+            index: _,
+            pass,
+            refusals,
+            last,
+        } = self;
+        (pass, refusals, last)
+    }
+
     // Counts a refusal for another lane or for want of room, and answers it.
     fn note(&mut self, refusal: Refusal) -> Refusal
         ensures same { (self.new.index ≡ self.old.index) × (self.new.pass ≡ self.old.pass) }
@@ -106,7 +127,7 @@ impl Ordered for Lane<'_> {
 
     ghost fits = { λ s h. Fits s.index.now.board.shape h };
 
-    ghost caused = { λ s t r. IsRefused s.index.now.board.shape (lane_of s.pass.lane) (view s.pass) (view t.pass) r };
+    ghost caused = { λ call s t r. IsRefused s.index.now.board.shape (lane_of s.pass.lane) call (view s.pass) (view t.pass) r };
 
     ghost stands_legal = { λ s h stood. subst IsLegal (sym stood) s.steady.legal };
 
@@ -131,7 +152,30 @@ impl Ordered for Lane<'_> {
         }
     }
 
-    fn part(&mut self, from: &Bound, to: &Bound, page: &mut Page) -> Result<Bound, Refusal> {
+    fn part(&mut self, from: &Bound, to: &Bound, page: &mut Page) -> Result<Bound, Refusal>
+        requires { bound_cmp from.now to.now ≡ Ordering.Less }
+        ensures ok { IfOk result (λ upto. Follows (λ h. h ≡ (view self.old.pass).seen) (λ h. h ≡ (view self.new.pass).seen)
+            (EntersLast (lane_of self.old.pass.lane) (view self.old.pass).sole (Part from.now upto) (Pairs page.new.pairs))) }
+        ensures above { IfOk result (λ upto. bound_cmp from.now upto ≡ Ordering.Less) }
+        ensures within { IfOk result (λ upto. bound_cmp upto to.now ≢ Ordering.Greater) }
+        ensures refused { OnErr result (Follows (λ h. h ≡ (view self.old.pass).seen) (λ h. h ≡ (view self.new.pass).seen)
+            (Stays (lane_of self.old.pass.lane) (view self.old.pass).sole)) }
+        ensures cleared { OnErr result (page.new.pairs ≡ []) }
+        ensures kept { (lane_of self.new.pass.lane ≡ lane_of self.old.pass.lane) × ((view self.new.pass).sole ≡ (view self.old.pass).sole)
+            × (origin_of self.new.index.now.board.shape.lanes self.new.pass.seat.table_id ≡ origin_of self.old.index.now.board.shape.lanes self.old.pass.seat.table_id) }
+        ensures forks { (view self.new.pass).room ≡ (view self.old.pass).room }
+        ensures fits { (history : List Entry) → Fits self.old.index.now.board.shape history → Fits self.new.index.now.board.shape history }
+        ensures counted { HasCause (λ s. s.refusals) (λ s. s.last)
+            (λ s t r. IsRefused s.index.now.board.shape (lane_of s.pass.lane) (Part from.now to.now) (view s.pass) (view t.pass) r)
+            self.old self.new (refusal_of result) }
+        ensures alone { IsTrue (view self.old.pass).sole → NotAgain result }
+        ensures room { NotFull result }
+
+        // How far it goes: up to the end of a leaf or of the range, or by as many pairs as are wanted, and
+        // by one where none is.
+        ensures end { IfOk result (λ upto. IsFewEnd from.now to.now (max page.old.wanted 1) page.new.pairs
+            (view self.old.pass) (view self.new.pass) upto) }
+    {
         match calls::part::<Brand>(&mut self.pass, self.index, from, to, page, Blank::new(1)) {
             Ok(upto) => Ok(upto),
             Err(refusal) => Err(self.note(refusal)),
@@ -146,6 +190,7 @@ impl Ordered for Lane<'_> {
 impl Lanes for Lane<'_> {
     ghost use Rattle.std.specs.Prelude.{refl};
     ghost use Rattle.board_rule.specs.Passes.{lane_of, view};
+    ghost use Rattle.index_lane.specs.Causes.{SawGiven};
     ghost use Rattle.index_lane.specs.Numbers.{HasAll, has_own};
 
     ghost seen = { λ s. (view s.pass).seen };
@@ -155,6 +200,8 @@ impl Lanes for Lane<'_> {
     ghost next = { λ s. (view s.pass).given };
 
     ghost has_all = { λ s n. HasAll (view s.pass) n };
+
+    ghost given = { λ s t n. SawGiven (view s.pass) (view t.pass) n };
 
     ghost stands_seen = { λ s. refl };
 

@@ -54,7 +54,7 @@ impl<T: Ordered, G: Gate> Ordered for Gated<'_, T, G> {
 
     ghost fits = { λ s h. T.fits s.store h };
 
-    ghost caused = { λ s t r. T.caused s.store t.store r };
+    ghost caused = { λ call s t r. T.caused call s.store t.store r };
 
     ghost stands_legal = { λ s h stood. T.stands_legal s.store h stood };
 

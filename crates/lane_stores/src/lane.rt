@@ -99,7 +99,7 @@ impl Ordered for SharedLane<'_> {
 
     ghost fits = { λ s h. Unit {0} };
 
-    ghost caused = { λ s t r. IsForLane s.map.now.lanes s.alone r };
+    ghost caused = { λ call s t r. IsForLane s.map.now.lanes s.alone r };
 
     ghost stands_legal = { λ s h stood. stood.legal };
 
@@ -177,7 +177,7 @@ impl Ordered for SharedLane<'_> {
 }
 
 impl Lanes for SharedLane<'_> {
-    ghost use Rattle.std.specs.Prelude.{refl};
+    ghost use Rattle.std.specs.Prelude.{◌≡◌, refl};
     ghost use Rattle.lane_stores.specs.Rule.{Has};
 
     ghost seen = { λ s. s.seat.me.0.seen };
@@ -187,6 +187,8 @@ impl Lanes for SharedLane<'_> {
     ghost next = { λ s. s.next };
 
     ghost has_all = { λ s n. Has s.seat.me.0.ended n };
+
+    ghost given = { λ s t n. n ≡ s.next };
 
     ghost stands_seen = { λ s. record { same = refl; legal = s.idle.of.legal } };
 

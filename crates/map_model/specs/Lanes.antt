@@ -28,3 +28,9 @@ abbrev pub TellsLanes : {T : Type 0} → ℕ → Result T ForkFault → Type 0
 TellsLanes most (Ok child) = ⊥
 TellsLanes most (Err (Lanes given cap)) = cap ≡ most
 TellsLanes most (Err NoMemory) = ⊥
+
+-- If it is told that there are no more lanes, then with how many are given, of which this holds.
+abbrev pub TellsGiven : {T : Type 0} → (ℕ → Type 0) → Result T ForkFault → Type 0
+TellsGiven says (Ok child) = Unit {0}
+TellsGiven says (Err (Lanes given cap)) = says given
+TellsGiven says (Err NoMemory) = Unit {0}

@@ -3,9 +3,10 @@ use Rattle.std.specs.Prelude.{◌≡◌, ◌≤◌, ℕ, zero, suc, List, [], �
 use Rattle.std.specs.List.{flat_map}
 use Rattle.map_model.specs.Maps.{Pairs}
 
--- the pairs, and how many more, and of how many bytes, there is room for
+-- the pairs, how many are still wanted, and how many more, and of how many bytes, there is room for
 pub record Paged : Type 0 where
   pub pairs : Pairs (List ℕ)
+  pub wanted : ℕ
   pub spare_pairs : ℕ
   pub spare_bytes : ℕ
 

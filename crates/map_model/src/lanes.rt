@@ -3,7 +3,7 @@ ghost use Rattle.std.specs.Prelude.{◌≡◌, ◌≤◌, ◌<◌, ◌+◌, ◌-
 ghost use Rattle.std.specs.List.{AllByRecursion};
 ghost use mathlib.Core.List.{IsPrefix};
 ghost use Rattle.map_model.specs.History.{Entry, IsNumbered, own};
-ghost use Rattle.map_model.specs.Lanes.{IsFork, ForksByRoom, TellsLanes};
+ghost use Rattle.map_model.specs.Lanes.{IsFork, ForksByRoom, TellsLanes, TellsGiven};
 
 use crate::{ForkFault, Ordered};
 
@@ -24,6 +24,10 @@ pub trait Lanes: Ordered + Send + Drop + Sized {
     /// Whether it has seen all calls of a lane. It has of its own lane, and of each that was ended into it.
     ghost has_all: { Self → ℕ → Type 0 };
 
+    /// What stands behind the count of lanes given that a refused fork tells, by the lane before the fork
+    /// and after it.
+    ghost given: { Self → Self → ℕ → Type 0 };
+
     /// Makes a lane with a number of its own, which has seen what this one has.
     fn fork(&mut self) -> Result<Self, ForkFault>
         ensures seen { seen self.new ≡ seen self.old }
@@ -39,7 +43,8 @@ pub trait Lanes: Ordered + Send + Drop + Sized {
         ensures among { OnOk result (Self.sole self.new ≡ false) }
         ensures alone { OnErr result (Self.sole self.new ≡ Self.sole self.old) }
         ensures room { ForksByRoom (Self.room self.old) (Self.room self.new) result }
-        ensures full { Self.room self.old ≡ 0 → TellsLanes (lanes self.old) result };
+        ensures full { Self.room self.old ≡ 0 → TellsLanes (lanes self.old) result }
+        ensures given { TellsGiven (given self.old self.new) result };
 
     /// Ends this lane. The other one has then seen what both had, and has the forks that this one could
     /// still make, but for one whose number this one had taken already.

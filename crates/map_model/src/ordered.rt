@@ -2,7 +2,7 @@
 ghost use Rattle.std.specs.Prelude.{◌≡◌, ◌≤◌, ◌≢◌, ℕ, List, [], ◌∷◌, ◌++◌, Bool, Option, length, IfOk, OnErr, IsTrue};
 ghost use Rattle.std.specs.Bool.{OnFalse};
 ghost use Rattle.key_bytes.specs.Bound.{bound_cmp};
-ghost use Rattle.map_model.specs.Calls.{Get, Put, Del, Part, Pairs, answer_of};
+ghost use Rattle.map_model.specs.Calls.{Call, Get, Put, Del, Part, Pairs, answer_of};
 ghost use Rattle.map_model.specs.History.{Entry, IsLegal, after, entry_of};
 ghost use Rattle.map_model.specs.Ordered.{Follows, Enters, EntersLast, Stays, got, was_put, was_gone};
 ghost use Rattle.map_model.specs.Refusals.{HasCause, refusal_of, NotAgain, NotFull};
@@ -45,8 +45,9 @@ pub trait Ordered {
     /// Whether there is room for what a history puts.
     ghost fits: { Self → List Entry → Type 0 };
 
-    /// What stands behind a refusal, by the store before the call and after it.
-    ghost caused: { Self → Self → Refusal → Type 0 };
+    /// What stands behind a refusal of a call, by the store before the call and after it. A part is the
+    /// call as it was asked: up to the upper end of its range.
+    ghost caused: { Call → Self → Self → Refusal → Type 0 };
 
     /// Leaves the value at the key in `out` in place of what was there, and says whether there is one.
     fn get(&mut self, key: &Key, out: &mut Vec<u8>) -> Result<bool, Refusal>
@@ -60,7 +61,8 @@ pub trait Ordered {
             × (origin self.new ≡ origin self.old) }
         ensures forks { room self.new ≡ room self.old }
         ensures fits { (history : List Entry) → fits self.old history → fits self.new history }
-        ensures counted { HasCause refusals last caused self.old self.new (refusal_of result) }
+        ensures counted { HasCause refusals last (caused (Get key.now)) self.old self.new
+            (refusal_of result) }
         ensures alone { IsTrue (sole self.old) → NotAgain result }
         ensures room { NotFull result };
 
@@ -75,7 +77,8 @@ pub trait Ordered {
             × (origin self.new ≡ origin self.old) }
         ensures forks { room self.new ≡ room self.old }
         ensures fits { (history : List Entry) → fits self.old history → fits self.new history }
-        ensures counted { HasCause refusals last caused self.old self.new (refusal_of result) }
+        ensures counted { HasCause refusals last (caused (Put key.now value.now)) self.old self.new
+            (refusal_of result) }
         ensures alone { IsTrue (sole self.old) → NotAgain result }
         ensures room { IsTrue (sole self.old) → (seen : List Entry) → stands self.old seen
             → fits self.old (seen ++ entry_of (lane self.old) seen (Put key.now value.now)
@@ -92,7 +95,8 @@ pub trait Ordered {
             × (origin self.new ≡ origin self.old) }
         ensures forks { room self.new ≡ room self.old }
         ensures fits { (history : List Entry) → fits self.old history → fits self.new history }
-        ensures counted { HasCause refusals last caused self.old self.new (refusal_of result) }
+        ensures counted { HasCause refusals last (caused (Del key.now)) self.old self.new
+            (refusal_of result) }
         ensures alone { IsTrue (sole self.old) → NotAgain result }
         ensures room { NotFull result };
 
@@ -112,7 +116,8 @@ pub trait Ordered {
             × (origin self.new ≡ origin self.old) }
         ensures forks { room self.new ≡ room self.old }
         ensures fits { (history : List Entry) → fits self.old history → fits self.new history }
-        ensures counted { HasCause refusals last caused self.old self.new (refusal_of result) }
+        ensures counted { HasCause refusals last (caused (Part from.now to.now)) self.old self.new
+            (refusal_of result) }
         ensures alone { IsTrue (sole self.old) → NotAgain result }
         ensures room { NotFull result };
 

@@ -1,5 +1,5 @@
 //! The pairs of a part.
-ghost use Rattle.std.specs.Prelude.{◌≡◌, ℕ, ◌≤◌, ◌<◌, ◌+◌, ◌-◌, ◌⊎◌, [], ◌∷◌, ◌++◌, length, take, drop, slice_index_or, slice_range, OnOk, OnErr};
+ghost use Rattle.std.specs.Prelude.{◌≡◌, ℕ, ◌≤◌, ◌<◌, ◌+◌, ◌-◌, ◌^◌, ◌⊎◌, [], ◌∷◌, ◌++◌, length, take, drop, slice_index_or, slice_range, OnOk, OnErr};
 ghost use Rattle.map_model.specs.Pages.{HasNoLessRoom, cut, joined, AreEnds, start_at};
 
 use key_bytes::copy_few;
@@ -18,7 +18,7 @@ pub struct Page {
     used: usize,
     // The end of each key, and that of its value.
     ends: Vec<(usize, usize)>,
-    // How many pairs whoever gave the page still wants: a hint, of which no contract speaks.
+    // How many pairs whoever gave the page still wants.
     wanted: usize,
 }
 
@@ -30,6 +30,7 @@ impl Model for Page {
 
     ghost view = { λ p. record {
       pairs = cut p.bytes.items 0 p.ends.items;
+      wanted = p.wanted;
       spare_pairs = vec_capacity p.ends - vec_len p.ends;
       spare_bytes = length p.bytes.items - p.used;
     } };
@@ -38,9 +39,10 @@ impl Model for Page {
 }
 
 impl Page {
-    /// A page with no pair, and no room yet.
+    /// A page with no pair, and no room yet. It wants as many pairs as can be counted.
     pub fn new(alloc: Global) -> Page
-        ensures { result.pairs ≡ [] }
+        ensures pairs { result.pairs ≡ [] }
+        ensures wanted { result.wanted ≡ 2 ^ 64 - 1 }
     {
         Page {
             bytes: Vec::new(alloc),
@@ -51,8 +53,9 @@ impl Page {
     }
 
     /// Says how many pairs are still wanted by whoever gives the page. A store may end a part behind so
-    /// many pairs, or go on. A new page wants all.
+    /// many pairs, or go on.
     pub fn want(&mut self, pairs: usize)
+        ensures wanted { self.new.wanted ≡ pairs }
         ensures pairs { self.new.pairs ≡ self.old.pairs }
         ensures room { HasNoLessRoom self.old self.new }
     {
@@ -60,7 +63,9 @@ impl Page {
     }
 
     /// How many pairs are still wanted, as it was last said.
-    pub fn wanted(&self) -> usize {
+    pub fn wanted(&self) -> usize
+        ensures { result ≡ self.now.wanted }
+    {
         self.wanted
     }
 
@@ -99,6 +104,7 @@ impl Page {
     /// takes no memory where there is as much.
     pub fn reserve(&mut self, pairs: usize, bytes: usize) -> Result<(), AllocError>
         ensures same { self.new.pairs ≡ self.old.pairs }
+        ensures wanted { self.new.wanted ≡ self.old.wanted }
         ensures pairs { OnOk result (pairs ≤ self.new.spare_pairs) }
         ensures bytes { OnOk result (bytes ≤ self.new.spare_bytes) }
         ensures taken { OnErr result ((self.old.spare_pairs < pairs) ⊎ (self.old.spare_bytes < bytes)) }
@@ -112,6 +118,7 @@ impl Page {
     pub fn push(&mut self, key: &[u8], value: &[u8]) -> Result<(), AllocError>
         ensures ok { OnOk result (self.new.pairs ≡ self.old.pairs ++ (key.now, value.now) ∷ []) }
         ensures err { OnErr result (self.new.pairs ≡ self.old.pairs) }
+        ensures wanted { self.new.wanted ≡ self.old.wanted }
         ensures taken { OnErr result ((self.old.spare_pairs < 1)
             ⊎ (self.old.spare_bytes < length key.now + length value.now)) }
         ensures pairs { self.old.spare_pairs ≤ self.new.spare_pairs + 1 }
@@ -132,6 +139,7 @@ impl Page {
     /// Takes all pairs out, and keeps the room.
     pub fn clear(&mut self)
         ensures none { self.new.pairs ≡ [] }
+        ensures wanted { self.new.wanted ≡ self.old.wanted }
         ensures room { HasNoLessRoom self.old self.new }
     {
         self.used = 0;

@@ -201,7 +201,7 @@ impl Ordered for PlainMap {
 
     ghost fits = { λ m h. Unit {0} };
 
-    ghost caused = { λ m n r. ⊥ };
+    ghost caused = { λ call m n r. ⊥ };
 
     ghost stands_legal = { λ m h history. history.legal };
 

@@ -34,7 +34,8 @@ pub enum Again {
     Turn {
         holder: u32,
     },
-    /// The table that would be changed is still pinned, so often.
+    /// The table that would be changed is still pinned. `pins` is always 1: the holder of the turn stops at
+    /// the first lane that has pinned it.
     Pinned {
         table: u32,
         pins: u64,

@@ -1,5 +1,6 @@
 -- Why a put is refused.
 use Rattle.std.specs.Prelude.{ℕ, ◌≡◌, ◌+◌, ◌-◌, ◌^◌, ◌≤◌, ◌⊎◌, List, min, Some}
+use Rattle.map_model.specs.Calls.{Call, Get, Put, Del, Part}
 use Rattle.map_model.specs.declared.refusal.Full.{Full}
 use Rattle.map_model.specs.declared.refusal.Full.TheVariants.{Values, Crowded}
 use Rattle.map_model.specs.declared.refusal.Refusal.{Refusal}
@@ -33,11 +34,14 @@ RefusesPut old new key (refusals.Again cause) = ⊥
 RefusesPut old new key (refusals.Full cause) = FullFor old key cause × (new ≡ old)
 RefusesPut old new key refusals.NoMemory = (HasAllValues old → ⊥) × ((new ≡ old) ⊎ Opens old new key)
 
--- a refusal has its cause in the store before the call: there was no room for a put of some key
-abbrev pub Caused : Store → Store → Refusal → Type 0
-Caused old new (refusals.Again cause) = ⊥
-Caused old new (refusals.Full cause) = (key : List ℕ) × FullFor old.table key cause
-Caused old new refusals.NoMemory = ⊥
+-- a refusal has its cause in the store before the call: it was a put, and there was no room for its key
+abbrev pub Caused : Call → Store → Store → Refusal → Type 0
+Caused (Put key value) old new (refusals.Full cause) = FullFor old.table key cause
+Caused (Put key value) old new (refusals.Again cause) = ⊥
+Caused (Put key value) old new refusals.NoMemory = ⊥
+Caused (Get key) old new refusal = ⊥
+Caused (Del key) old new refusal = ⊥
+Caused (Part from upto) old new refusal = ⊥
 
 -- A counted refusal raises the count, as far as it can tell, and is the last one; want of memory isn't counted.
 abbrev pub IsNoted : Store → Store → Refusal → Type 0

@@ -118,7 +118,7 @@ impl Solo {
         ensures ok { IfOk result (IsPut self.old.table self.new.table key.now value.now) }
         ensures refused { IfErr result (RefusesPut self.old.table self.new.table key.now) }
         ensures values { HasAllValues self.old.table → result ≡ Err (values_full self.old.table) }
-        ensures counted { HasCause (λ (s : Store). s.refusals) (λ (s : Store). s.last) Caused self.old self.new (refusal_of result) }
+        ensures counted { HasCause (λ (s : Store). s.refusals) (λ (s : Store). s.last) (Caused (PutCall key.now value.now)) self.old self.new (refusal_of result) }
         ensures whole { IsWhole self.old.table }
     {
         let answer = put_key(&mut self.table, key, value);
@@ -184,7 +184,7 @@ impl Ordered for Solo {
             (Enters 0 true (PutCall key.now value.now) (was_put new))) }
         ensures refused { OnErr result (Follows (Stands self.old.table) (Stands self.new.table) (Stays 0 true)) }
         ensures fits { (history : List Entry) → Fits self.old.table.shape history → Fits self.new.table.shape history }
-        ensures counted { HasCause (λ (s : Store). s.refusals) (λ (s : Store). s.last) Caused self.old self.new (refusal_of result) }
+        ensures counted { HasCause (λ (s : Store). s.refusals) (λ (s : Store). s.last) (Caused (PutCall key.now value.now)) self.old self.new (refusal_of result) }
         ensures alone { NotAgain result }
         ensures room { (seen : List Entry) → Stands self.old.table seen
             → Fits self.old.table.shape (seen ++ entry_of 0 seen (PutCall key.now value.now)

@@ -88,7 +88,7 @@ impl Ordered for Refusing {
 
     ghost fits = { λ s h. Unit {0} };
 
-    ghost caused = { λ s t r. IsNext s.refusals.items s.at r };
+    ghost caused = { λ call s t r. IsNext s.refusals.items s.at r };
 
     ghost stands_legal = { λ s h history. history.legal };
 

@@ -7,4 +7,4 @@ use Rattle.index_lane.proofs.calls.part.Goals as goal
 pub returns-in-Err-Again-clause-cause : goal.returns-in-Err-Again-clause-cause
 returns-in-Err-Again-clause-cause g c =
     let is : c.in-Err-Again.field-0 ≡ Again c.in-Err-Again.again = search rules in
-    part_look (view c.args.pass.now) (view c.try_few.new.pass) (view c.see_lanes-in-Err-Again.new.pass) c.see_lanes-in-Err-Again.result c.see_lanes-in-Err-Again.ensures.view c.args.index.now.board.shape (lane_of c.args.pass.now.lane) c.args.from.now c.in-Err-Again.field-0 c.in-Err-Again.again is c.in-Err-Again.ensures.cause
+    part_look (view c.args.pass.now) (view c.try_few.new.pass) (view c.see_lanes-in-Err-Again.new.pass) c.see_lanes-in-Err-Again.result c.see_lanes-in-Err-Again.ensures.view c.args.index.now.board.shape (lane_of c.args.pass.now.lane) c.args.from.now c.args.to.now c.in-Err-Again.field-0 c.in-Err-Again.again is c.in-Err-Again.ensures.cause
