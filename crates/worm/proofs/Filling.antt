@@ -1,5 +1,7 @@
 -- A fill of an index that stands for the empty history.
 use Rattle.std.proofs.Common.{◌≡◌, ◌<◌, ◌^◌, ℕ, List, [], Bool, true, refl, sym, subst, inl, inr, Option, None, arith}
+use Rattle.board_rule.specs.Passes.{view}
+use Rattle.board_rule.specs.declared.board.Pass.{Pass}
 use Rattle.fill_runs.specs.Fills as fills
 use Rattle.fill_runs.specs.declared.fills.FillEnd.{FillEnd}
 use Rattle.fill_runs.specs.declared.fills.FillEnd.TheVariants as ends
@@ -39,22 +41,21 @@ module _ (k : Shape) (number count : ℕ) (w v : Option (List ℕ)) (j : ℕ) (n
   summed_new shape small ends.NoMemory status is s done = absurd (omega (arith, is, done))
 
 -- over an index as it was made, by its first lane
-pub filled : (k made_shape : Shape) (number count status : ℕ) (end : FillEnd) (w v : Option (List ℕ)) (lane : ℕ) (sole : Bool) (i j : ℕ) (m n : Option Refusal) (before seen now : List Entry)
-    → made_shape ≡ k → lane ≡ 0 → sole ≡ true → i ≡ 0 → m ≡ None → before ≡ [] → now ≡ seen → IsShape k → count < 2 ^ 32
-    → status ≡ fill_status end → fills.Filled end number count w v lane sole (Fits made_shape) i j m n (IsJust before) (IsJust seen) → Filled k number count status w v now
-filled k made_shape number count status end w v lane sole i j m n before seen now same first alone none no_last empty is_seen shape small is s =
+pub filled : (k made_shape : Shape) (number count status : ℕ) (end : FillEnd) (w v : Option (List ℕ)) (lane : ℕ) (sole : Bool) (i j : ℕ) (m n : Option Refusal) (before : List Entry) (left : Pass) (parts : Pass × ℕ × Option Refusal)
+    → made_shape ≡ k → lane ≡ 0 → sole ≡ true → i ≡ 0 → m ≡ None → before ≡ [] → parts ≡ (left, j, n) → IsShape k → count < 2 ^ 32
+    → status ≡ fill_status end → fills.Filled end number count w v lane sole (Fits made_shape) i j m n (IsJust before) (IsJust (view left).seen) → Filled k number count status w v parts.1 parts.2 (view parts.0).seen
+filled k made_shape number count status end w v lane sole i j m n before left parts same first alone none no_last empty is_left shape small is s =
+    let seen = (view left).seen in
     let s1 : fills.Filled end number count w v lane sole (Fits k) i j m n (IsJust before) (IsJust seen) = subst (λ q. fills.Filled end number count w v lane sole (Fits q) i j m n (IsJust before) (IsJust seen)) same s in
     let s2 : fills.Filled end number count w v 0 sole (Fits k) i j m n (IsJust before) (IsJust seen) = subst (λ q. fills.Filled end number count w v q sole (Fits k) i j m n (IsJust before) (IsJust seen)) first s1 in
     let s3 : fills.Filled end number count w v 0 true (Fits k) i j m n (IsJust before) (IsJust seen) = subst (λ q. fills.Filled end number count w v 0 q (Fits k) i j m n (IsJust before) (IsJust seen)) alone s2 in
     let s4 : fills.Filled end number count w v 0 true (Fits k) 0 j m n (IsJust before) (IsJust seen) = subst (λ q. fills.Filled end number count w v 0 true (Fits k) q j m n (IsJust before) (IsJust seen)) none s3 in
     let s5 : fills.Filled end number count w v 0 true (Fits k) 0 j None n (IsJust before) (IsJust seen) = subst (λ q. fills.Filled end number count w v 0 true (Fits k) 0 j q n (IsJust before) (IsJust seen)) no_last s4 in
     let s6 : fills.Filled end number count w v 0 true (Fits k) 0 j None n (IsJust []) (IsJust seen) = subst (λ q. fills.Filled end number count w v 0 true (Fits k) 0 j None n (IsJust q) (IsJust seen)) empty s5 in
-    subst (λ h. Filled k number count status w v h) (sym is_seen) (record {
+    subst (λ (p : Pass × ℕ × Option Refusal). Filled k number count status w v p.1 p.2 (view p.0).seen) (sym is_left) (record {
       mine = mine k number count w v j n seen end s6;
       end = end;
       of_end = is;
-      refusals = j;
-      last = n;
       served = s6;
       summed = summed_new k number count w v j n seen shape small end status is s6;
     })

@@ -2,6 +2,8 @@
 use Rattle.std.proofs.Common.{◌≡◌, ◌<◌, ◌≤◌, ℕ, List, [], length, Bool, true, refl, sym, subst, inl, inr, ◌∙◌, eqb, Option, Some, None, arith}
 use Rattle.std.proofs.lemmas.Bool.{eqb-true}
 use Rattle.std.specs.List.{AllByRecursion}
+use Rattle.board_rule.specs.Passes.{view}
+use Rattle.board_rule.specs.declared.board.Pass.{Pass}
 use Rattle.counts.specs.Counts.{Rose}
 use Rattle.index_lane.specs.Causes.{Fits}
 use Rattle.line_protocol.specs.Served.{served}
@@ -66,14 +68,12 @@ room_within k end bytes ended shape taken within =
 
 ran_new : (k : Shape) (end : SessionEnd) (status : ℕ) (t u : Option Told) (w v : Option (List ℕ)) (j : ℕ) (n : Option Refusal) (seen : List Entry) (reads reads_now writes writes_now : ℕ)
     → IsShape k → status ≡ status_of end → (end ≡ ends.ReadFault → Rose reads reads_now) → (end ≡ ends.WriteFault → Rose writes writes_now)
-    → Session end most_bytes t u w v (Some 1) 0 true (Fits k) 0 j None n (IsJust []) (IsJust seen) → SoleSession end most_bytes t u w v (Fits k) → Ran k status t u w v reads reads_now writes writes_now seen
+    → Session end most_bytes t u w v (Some 1) 0 true (Fits k) 0 j None n (IsJust []) (IsJust seen) → SoleSession end most_bytes t u w v (Fits k) → Ran k status t u w v reads reads_now writes writes_now j n seen
 ran_new k end status t u w v j n seen reads reads_now writes writes_now shape of_end read write s sole =
     record {
       mine = first_lanes_by _ seen s.replies (λ now turn. (turn.replies.entries, turn.replies.grows));
       end = end;
       of_end = of_end;
-      refusals = j;
-      last = n;
       session = s;
       plain = sole.plain;
       complete = λ no_read no_write few within.
@@ -86,15 +86,16 @@ ran_new k end status t u w v j n seen reads reads_now writes writes_now shape of
     }
 
 -- over an index as it was made, by its first lane
-pub ran : (k made : Shape) (end : SessionEnd) (status : ℕ) (t u : Option Told) (w v : Option (List ℕ)) (lane : ℕ) (sole : Bool) (i j : ℕ) (m n : Option Refusal) (before seen now : List Entry) (reads reads_now writes writes_now : ℕ)
-    → made ≡ k → lane ≡ 0 → sole ≡ true → i ≡ 0 → m ≡ None → before ≡ [] → now ≡ seen → IsShape k → status ≡ status_of end → (end ≡ ends.ReadFault → Rose reads reads_now) → (end ≡ ends.WriteFault → Rose writes writes_now)
-    → Session end most_bytes t u w v (Some 1) lane sole (Fits made) i j m n (IsJust before) (IsJust seen) → SoleSession end most_bytes t u w v (Fits made) → Ran k status t u w v reads reads_now writes writes_now now
-ran k made end status t u w v lane sole i j m n before seen now reads reads_now writes writes_now same first alone none no_last empty is_seen shape of_end read write s one =
+pub ran : (k made : Shape) (end : SessionEnd) (status : ℕ) (t u : Option Told) (w v : Option (List ℕ)) (lane : ℕ) (sole : Bool) (i j : ℕ) (m n : Option Refusal) (before : List Entry) (left : Pass) (parts : Pass × ℕ × Option Refusal) (reads reads_now writes writes_now : ℕ)
+    → made ≡ k → lane ≡ 0 → sole ≡ true → i ≡ 0 → m ≡ None → before ≡ [] → parts ≡ (left, j, n) → IsShape k → status ≡ status_of end → (end ≡ ends.ReadFault → Rose reads reads_now) → (end ≡ ends.WriteFault → Rose writes writes_now)
+    → Session end most_bytes t u w v (Some 1) lane sole (Fits made) i j m n (IsJust before) (IsJust (view left).seen) → SoleSession end most_bytes t u w v (Fits made) → Ran k status t u w v reads reads_now writes writes_now parts.1 parts.2 (view parts.0).seen
+ran k made end status t u w v lane sole i j m n before left parts reads reads_now writes writes_now same first alone none no_last empty is_left shape of_end read write s one =
+    let seen = (view left).seen in
     let s1 : Session end most_bytes t u w v (Some 1) lane sole (Fits k) i j m n (IsJust before) (IsJust seen) = subst (λ q. Session end most_bytes t u w v (Some 1) lane sole (Fits q) i j m n (IsJust before) (IsJust seen)) same s in
     let s2 : Session end most_bytes t u w v (Some 1) 0 sole (Fits k) i j m n (IsJust before) (IsJust seen) = subst (λ q. Session end most_bytes t u w v (Some 1) q sole (Fits k) i j m n (IsJust before) (IsJust seen)) first s1 in
     let s3 : Session end most_bytes t u w v (Some 1) 0 true (Fits k) i j m n (IsJust before) (IsJust seen) = subst (λ q. Session end most_bytes t u w v (Some 1) 0 q (Fits k) i j m n (IsJust before) (IsJust seen)) alone s2 in
     let s4 : Session end most_bytes t u w v (Some 1) 0 true (Fits k) 0 j m n (IsJust before) (IsJust seen) = subst (λ q. Session end most_bytes t u w v (Some 1) 0 true (Fits k) q j m n (IsJust before) (IsJust seen)) none s3 in
     let s5 : Session end most_bytes t u w v (Some 1) 0 true (Fits k) 0 j None n (IsJust before) (IsJust seen) = subst (λ q. Session end most_bytes t u w v (Some 1) 0 true (Fits k) 0 j q n (IsJust before) (IsJust seen)) no_last s4 in
     let s6 : Session end most_bytes t u w v (Some 1) 0 true (Fits k) 0 j None n (IsJust []) (IsJust seen) = subst (λ q. Session end most_bytes t u w v (Some 1) 0 true (Fits k) 0 j None n (IsJust q) (IsJust seen)) empty s5 in
-    subst (λ h. Ran k status t u w v reads reads_now writes writes_now h) (sym is_seen)
+    subst (λ (p : Pass × ℕ × Option Refusal). Ran k status t u w v reads reads_now writes writes_now p.1 p.2 (view p.0).seen) (sym is_left)
     (ran_new k end status t u w v j n seen reads reads_now writes writes_now shape of_end read write s6 (subst (λ q. SoleSession end most_bytes t u w v (Fits q)) same one))

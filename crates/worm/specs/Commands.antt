@@ -2,11 +2,12 @@
 use Rattle.std.specs.Prelude.{◌≡◌, ℕ, List, Option, Some, None}
 use Rattle.board_rule.specs.declared.board.Pass.{Pass}
 use Rattle.command_line.specs.Commands.{Wanted, Run, Lanes, Serve, Fill}
+use Rattle.map_model.specs.declared.refusal.Refusal.{Refusal}
 use Rattle.outside.specs.Connections.{Connection}
 use Rattle.outside.specs.Reading.{Told}
 use Rattle.worm.specs.Fills.{FilledWith}
 use Rattle.worm.specs.Lanes.{LanesRan}
-use Rattle.worm.specs.Runs.{RanWith}
+use Rattle.worm.specs.Runs.{IsUnrefused, RanWith}
 use Rattle.worm.specs.Servers.{ServedWith}
 
 -- no command, or one that reads no input
@@ -46,9 +47,9 @@ abbrev pub ends : Option Told → ℕ → Option (List ℕ) → ℕ → Option (
 ends told reads written writes closed closings = record { told = told; reads = reads; written = written; writes = writes; closed = closed; closings = closings }
 
 -- Words that are no command end with status 2 and without a pass, and a command as it says.
-abbrev pub Did : Option Wanted → ℕ → Ends → Ends → Option Pass → Type 0
-Did None status old new pass = (status ≡ 2) × (pass ≡ None)
-Did (Some (Run k)) status old new pass = RanWith k status old.told new.told old.written new.written old.reads new.reads old.writes new.writes pass
-Did (Some (Lanes count tries k)) status old new pass = LanesRan k count tries status old.told new.told old.written new.written pass
-Did (Some (Serve address workers sessions k)) status old new pass = ServedWith k workers sessions status old.closed new.closed old.closings new.closings pass
-Did (Some (Fill number count k)) status old new pass = FilledWith k number count status old.written new.written pass
+abbrev pub Did : Option Wanted → ℕ → Ends → Ends → Option Pass → ℕ → Option Refusal → Type 0
+Did None status old new pass refusals last = (status ≡ 2) × (pass ≡ None) × IsUnrefused refusals last
+Did (Some (Run k)) status old new pass refusals last = RanWith k status old.told new.told old.written new.written old.reads new.reads old.writes new.writes pass refusals last
+Did (Some (Lanes count tries k)) status old new pass refusals last = LanesRan k count tries status old.told new.told old.written new.written pass refusals last
+Did (Some (Serve address workers sessions k)) status old new pass refusals last = ServedWith k workers sessions status old.closed new.closed old.closings new.closings pass refusals last
+Did (Some (Fill number count k)) status old new pass refusals last = FilledWith k number count status old.written new.written pass refusals last

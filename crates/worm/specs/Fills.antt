@@ -13,7 +13,7 @@ use Rattle.map_model.specs.declared.refusal.Refusal.{Refusal}
 use Rattle.outside.specs.Writing.{Wrote}
 use Rattle.row_words.specs.declared.shape.Shape.{Shape}
 use Rattle.session.specs.Plain.{plain_output}
-use Rattle.worm.specs.Runs.{IsFirstLanes, IsJust, IsNew, IsWithin}
+use Rattle.worm.specs.Runs.{IsFirstLanes, IsJust, IsNew, IsUnrefused, IsWithin}
 
 -- the status of a fill's end
 abbrev pub fill_status : FillEnd → ℕ
@@ -32,19 +32,18 @@ pub record HasSummary (k : Shape) (number count : ℕ) (written_before written_n
   -- there no line tells want of room, also where some tell want of memory
   pub never_full : IsWithin k (made number count) → counted (codes "FULL") output ≡ 0
 
--- What a fill made and wrote, and what its lane had seen at its end.
-pub record Filled (k : Shape) (number count status : ℕ) (written_before written_now : Option (List ℕ)) (seen : List Entry) : Type 0 where
+-- What a fill made and wrote, how often its lane was refused, the last refusal, and what the lane had seen at its end.
+pub record Filled (k : Shape) (number count status : ℕ) (written_before written_now : Option (List ℕ)) (refusals : ℕ) (last : Option Refusal) (seen : List Entry) : Type 0 where
   pub mine : IsFirstLanes seen
   -- a fill of an index that is the only lane came to this end
   pub end : FillEnd
   pub of_end : status ≡ fill_status end
-  -- what the lane had seen is a legal history from nothing, the output that was summed up is the transcript of these calls, and want of room was told only where there is none
-  pub refusals : ℕ
-  pub last : Option Refusal
+  -- what the lane had seen is a legal history from nothing, the output that was summed up is the transcript of these calls, and want of room was told
+  -- only where there is none. For each line that tells a refusal there was one at least, and where the last line does, it tells the last one.
   pub served : fills.Filled end number count written_before written_now 0 true (Fits k) 0 refusals None last IsNew (IsJust seen)
   pub summed : status ≡ 0 → HasSummary k number count written_before written_now
 
 -- What a fill did, by the pass that it returns. Without one no index could be made, and nothing was written.
-abbrev pub FilledWith : Shape → ℕ → ℕ → ℕ → Option (List ℕ) → Option (List ℕ) → Option Pass → Type 0
-FilledWith k number count status written_before written_now None = (status ≡ 5) × (written_now ≡ written_before)
-FilledWith k number count status written_before written_now (Some pass) = Filled k number count status written_before written_now (view pass).seen
+abbrev pub FilledWith : Shape → ℕ → ℕ → ℕ → Option (List ℕ) → Option (List ℕ) → Option Pass → ℕ → Option Refusal → Type 0
+FilledWith k number count status written_before written_now None refusals last = (status ≡ 5) × (written_now ≡ written_before) × IsUnrefused refusals last
+FilledWith k number count status written_before written_now (Some pass) refusals last = Filled k number count status written_before written_now refusals last (view pass).seen

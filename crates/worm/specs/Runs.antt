@@ -53,20 +53,23 @@ pub record IsWithin (k : Shape) (lines : List (List ℕ)) : Type 0 where
 abbrev pub IsComplete : ℕ → List ℕ → List ℕ → Type 0
 IsComplete status bytes output = ((status ≡ 0) × (output ≡ plain_output bytes)) ⊎ (status ≡ 5) ⊎ HasLine (codes "NOMEM") output
 
+-- no call was refused
+abbrev pub IsUnrefused : ℕ → Option Refusal → Type 0
+IsUnrefused refusals last = (refusals ≡ 0) × (last ≡ None)
+
 -- the history is legal, and all its calls are those of the first lane
 pub record IsFirstLanes (seen : List Entry) : Type 0 where
   pub legal : IsLegal seen
   pub first : AllByRecursion (λ (e : Entry). e.lane ≡ 0) seen
 
--- What a run took and wrote, and what its lane had seen at its end.
-pub record Ran (k : Shape) (status : ℕ) (told_before told_now : Option Told) (written_before written_now : Option (List ℕ)) (reads_before reads_now writes_before writes_now : ℕ) (seen : List Entry) : Type 0 where
+-- What a run took and wrote, how often its lane was refused, the last refusal, and what the lane had seen at its end.
+pub record Ran (k : Shape) (status : ℕ) (told_before told_now : Option Told) (written_before written_now : Option (List ℕ)) (reads_before reads_now writes_before writes_now refusals : ℕ) (last : Option Refusal) (seen : List Entry) : Type 0 where
   pub mine : IsFirstLanes seen
   -- a session of an index that is the only lane came to this end
   pub end : SessionEnd
   pub of_end : status ≡ status_of end
-  -- what the lane had seen is a legal history from nothing, its output is the transcript of these calls, and want of room was told only where there is none
-  pub refusals : ℕ
-  pub last : Option Refusal
+  -- what the lane had seen is a legal history from nothing, its output is the transcript of these calls, and want of room was told only where there
+  -- is none. For each line that tells a refusal there was one at least, and where the last line does, it tells the last one.
   pub session : Session end most_bytes told_before told_now written_before written_now (Some 1) 0 true (Fits k) 0 refusals None last IsNew (IsJust seen)
   -- where no line tells a refusal, its output is what one ordered map answers
   pub plain : PlainSession end most_bytes told_before told_now written_before written_now
@@ -76,6 +79,6 @@ pub record Ran (k : Shape) (status : ℕ) (told_before told_now : Option Told) (
   pub never_full : IsWithin k (served plain.bytes true) → HasLine (codes "FULL") plain.output → ⊥
 
 -- What a run did, by the pass that it returns. Without one no index could be made, and nothing was read or written.
-abbrev pub RanWith : Shape → ℕ → Option Told → Option Told → Option (List ℕ) → Option (List ℕ) → ℕ → ℕ → ℕ → ℕ → Option Pass → Type 0
-RanWith k status told_before told_now written_before written_now reads_before reads_now writes_before writes_now None = (status ≡ 5) × (told_now ≡ told_before) × (written_now ≡ written_before)
-RanWith k status told_before told_now written_before written_now reads_before reads_now writes_before writes_now (Some pass) = Ran k status told_before told_now written_before written_now reads_before reads_now writes_before writes_now (view pass).seen
+abbrev pub RanWith : Shape → ℕ → Option Told → Option Told → Option (List ℕ) → Option (List ℕ) → ℕ → ℕ → ℕ → ℕ → Option Pass → ℕ → Option Refusal → Type 0
+RanWith k status told_before told_now written_before written_now reads_before reads_now writes_before writes_now None refusals last = (status ≡ 5) × (told_now ≡ told_before) × (written_now ≡ written_before) × IsUnrefused refusals last
+RanWith k status told_before told_now written_before written_now reads_before reads_now writes_before writes_now (Some pass) refusals last = Ran k status told_before told_now written_before written_now reads_before reads_now writes_before writes_now refusals last (view pass).seen

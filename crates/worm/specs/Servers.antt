@@ -9,9 +9,10 @@ use Rattle.map_model.specs.History.{Entry, IsLegal}
 use Rattle.map_model.specs.declared.refusal.Refusal.{Refusal}
 use Rattle.outside.specs.Connections.{Connection}
 use Rattle.row_words.specs.declared.shape.Shape.{Shape}
+use Rattle.worm.specs.Runs.{IsUnrefused}
 
--- What a server closed, and what its first lane had seen at its end.
-pub record Served (k : Shape) (workers sessions status : ℕ) (closed_before closed_now : Option (List Connection)) (closings_before closings_now : ℕ) (seen : List Entry) : Type 0 where
+-- What a server closed, how often its lanes were refused, the last refusal of the first one, and what that had seen at its end.
+pub record Served (k : Shape) (workers sessions status : ℕ) (closed_before closed_now : Option (List Connection)) (closings_before closings_now refusals : ℕ) (last : Option Refusal) (seen : List Entry) : Type 0 where
   pub of_end : (status ≡ 0) ⊎ (status ≡ 5) ⊎ (status ≡ 6)
   pub legal : IsLegal seen
   -- it is done only where a number of sessions was asked for and just as many connections were closed
@@ -19,11 +20,9 @@ pub record Served (k : Shape) (workers sessions status : ℕ) (closed_before clo
   -- without memory for its workers it served nobody
   pub wanting : status ≡ 5 → (closed_now ≡ closed_before) × (closings_now ≡ closings_before) × (seen ≡ [])
   -- one worker: what the lane had seen is cut into the sessions of the connections that were closed, in order, of which none tells that another lane was in the way, and want of room only where there is none
-  pub refusals : ℕ
-  pub last : Option Refusal
   pub alone : workers ≡ 1 → ServesClosed 0 true (Fits k) 0 refusals None last closed_before closed_now [] seen
 
 -- What a server did, by the pass that it returns. Without one it didn't listen, or no index could be made, and nobody was served.
-abbrev pub ServedWith : Shape → ℕ → ℕ → ℕ → Option (List Connection) → Option (List Connection) → ℕ → ℕ → Option Pass → Type 0
-ServedWith k workers sessions status closed_before closed_now closings_before closings_now None = ((status ≡ 5) ⊎ (status ≡ 6)) × (closed_now ≡ closed_before) × (closings_now ≡ closings_before)
-ServedWith k workers sessions status closed_before closed_now closings_before closings_now (Some pass) = Served k workers sessions status closed_before closed_now closings_before closings_now (view pass).seen
+abbrev pub ServedWith : Shape → ℕ → ℕ → ℕ → Option (List Connection) → Option (List Connection) → ℕ → ℕ → Option Pass → ℕ → Option Refusal → Type 0
+ServedWith k workers sessions status closed_before closed_now closings_before closings_now None refusals last = ((status ≡ 5) ⊎ (status ≡ 6)) × (closed_now ≡ closed_before) × (closings_now ≡ closings_before) × IsUnrefused refusals last
+ServedWith k workers sessions status closed_before closed_now closings_before closings_now (Some pass) refusals last = Served k workers sessions status closed_before closed_now closings_before closings_now refusals last (view pass).seen

@@ -24,26 +24,25 @@ pub fn run_fill<K: Sink>(
 ) -> Outcome
     requires { IsShape shape.now }
     ensures status { (result.status ≡ 0) ⊎ (result.status ≡ 4) ⊎ (result.status ≡ 5) }
-    ensures filled { FilledWith shape.now number count result.status (K.written sink.old) (K.written sink.new) result.pass }
+    ensures filled { FilledWith shape.now number count result.status (K.written sink.old) (K.written sink.new) result.pass result.refusals result.last }
     ensures write_fault { result.status ≡ 4 → Rose (K.faults sink.old) (K.faults sink.new) }
 {
     match Index::make(alloc, shape) {
         Ok((index, pass)) => {
             let mut lane = Lane::new(&index, pass);
             let end = fill(alloc, &mut lane, number, count, sink);
-            let pass = lane.into_pass();
+            let (pass, refusals, last) = lane.into_parts();
             // As at the end of a script.
             mem::forget(index);
             Outcome {
                 status: status_of(end),
                 pass: Some(pass),
+                refusals,
+                last,
             }
         }
         // A shape that is one is refused for want of memory alone.
-        Err(_) => Outcome {
-            status: 5,
-            pass: None,
-        },
+        Err(_) => Outcome::bare(5),
     }
 }
 

@@ -33,7 +33,7 @@ pub fn run_lanes<R: Threads + Wait + Sync, S: Source, K: Sink>(
     ensures status { IsStatus result.status }
     ensures known { (result.status ≢ 2) × (result.status ≢ 6) }
     ensures ran { LanesRan shape.now count tries result.status (S.told source.old) (S.told source.new)
-        (K.written sink.old) (K.written sink.new) result.pass }
+        (K.written sink.old) (K.written sink.new) result.pass result.refusals result.last }
     ensures read_fault { result.status ≡ 3 → Rose (S.faults source.old) (S.faults source.new) }
     ensures write_fault { result.status ≡ 4 → Rose (K.faults sink.old) (K.faults sink.new) }
 {
@@ -45,10 +45,7 @@ pub fn run_lanes<R: Threads + Wait + Sync, S: Source, K: Sink>(
             };
             answer_all(rt, alloc, &shape, tries, input, sink)
         }
-        Err(fault) => Outcome {
-            status: input_status(fault),
-            pass: None,
-        },
+        Err(fault) => Outcome::bare(input_status(fault)),
     }
 }
 
@@ -63,26 +60,25 @@ fn answer_all<R: Threads + Wait + Sync, K: Sink>(
 ) -> Outcome
     requires { IsShape shape.now }
     ensures status { (result.status ≡ 0) ⊎ (result.status ≡ 4) ⊎ (result.status ≡ 5) }
-    ensures answered { AnsweredWith shape.now tries input.items result.status (K.written sink.old) (K.written sink.new) result.pass }
+    ensures answered { AnsweredWith shape.now tries input.items result.status (K.written sink.old) (K.written sink.new) result.pass result.refusals result.last }
     ensures write_fault { result.status ≡ 4 → Rose (K.faults sink.old) (K.faults sink.new) }
 {
     match Index::make(alloc, shape) {
         Ok((index, pass)) => {
             let mut lane = Lane::new(&index, pass);
             let end = answer_input(rt, alloc, &mut lane, input, shape.lanes, tries, sink);
-            let pass = lane.into_pass();
+            let (pass, refusals, last) = lane.into_parts();
             // As at the end of a script.
             mem::forget(index);
             Outcome {
                 status: lanes_status(end),
                 pass: Some(pass),
+                refusals,
+                last,
             }
         }
         // A shape that is one is refused for want of memory alone.
-        Err(_) => Outcome {
-            status: 5,
-            pass: None,
-        },
+        Err(_) => Outcome::bare(5),
     }
 }
 

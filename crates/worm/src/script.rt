@@ -28,7 +28,7 @@ pub fn run_script<S: Source, K: Sink>(
     ensures known { (result.status ≢ 2) × (result.status ≢ 6) }
     ensures ran { RanWith shape.now result.status (S.told source.old) (S.told source.new)
         (K.written sink.old) (K.written sink.new)
-        (S.faults source.old) (S.faults source.new) (K.faults sink.old) (K.faults sink.new) result.pass }
+        (S.faults source.old) (S.faults source.new) (K.faults sink.old) (K.faults sink.new) result.pass result.refusals result.last }
     ensures read_fault { result.status ≡ 3 → Rose (S.faults source.old) (S.faults source.new) }
     ensures write_fault { result.status ≡ 4 → Rose (K.faults sink.old) (K.faults sink.new) }
 {
@@ -36,19 +36,18 @@ pub fn run_script<S: Source, K: Sink>(
         Ok((index, pass)) => {
             let mut lane = Lane::new(&index, pass);
             let end = serve_sole(alloc, &mut lane, source, sink, MOST_INPUT);
-            let pass = lane.into_pass();
+            let (pass, refusals, last) = lane.into_parts();
             // The process ends soon, and its memory with it: giving back each leaf before takes longer.
             mem::forget(index);
             Outcome {
                 status: status_of(end),
                 pass: Some(pass),
+                refusals,
+                last,
             }
         }
         // A shape that is one is refused for want of memory alone.
-        Err(_) => Outcome {
-            status: 5,
-            pass: None,
-        },
+        Err(_) => Outcome::bare(5),
     }
 }
 

@@ -32,19 +32,13 @@ pub fn run_server<R: Threads + Wait + Sync, D: Door + Send>(
     requires workers { (1 ≤ workers) × (workers ≤ shape.now.lanes) }
     ensures status { (result.status ≡ 0) ⊎ (result.status ≡ 5) ⊎ (result.status ≡ 6) }
     ensures served { ServedWith shape.now workers sessions result.status (D.closed door.old) (D.closed door.new)
-        (D.closings door.old) (D.closings door.new) result.pass }
+        (D.closings door.old) (D.closings door.new) result.pass result.refusals result.last }
     ensures door_fault { result.status ≡ 6 → Rose (D.faults door.old) (D.faults door.new) }
 {
     match door.listen(address) {
         Ok(()) => serve_all(rt, alloc, shape, workers, sessions, door),
-        Err(Stop::Failed) => Outcome {
-            status: 6,
-            pass: None,
-        },
-        Err(Stop::NoMemory) => Outcome {
-            status: 5,
-            pass: None,
-        },
+        Err(Stop::Failed) => Outcome::bare(6),
+        Err(Stop::NoMemory) => Outcome::bare(5),
     }
 }
 
@@ -61,26 +55,25 @@ fn serve_all<R: Threads + Wait + Sync, D: Door + Send>(
     requires workers { (1 ≤ workers) × (workers ≤ shape.now.lanes) }
     ensures status { (result.status ≡ 0) ⊎ (result.status ≡ 5) ⊎ (result.status ≡ 6) }
     ensures served { ServedWith shape.now workers sessions result.status (D.closed door.old) (D.closed door.new)
-        (D.closings door.old) (D.closings door.new) result.pass }
+        (D.closings door.old) (D.closings door.new) result.pass result.refusals result.last }
     ensures door_fault { result.status ≡ 6 → Rose (D.faults door.old) (D.faults door.new) }
 {
     match Index::make(alloc, shape) {
         Ok((index, pass)) => {
             let mut lane = Lane::new(&index, pass);
             let status = serve_lanes(rt, alloc, door, &mut lane, workers, sessions);
-            let pass = lane.into_pass();
+            let (pass, refusals, last) = lane.into_parts();
             // As at the end of a script.
             mem::forget(index);
             Outcome {
                 status,
                 pass: Some(pass),
+                refusals,
+                last,
             }
         }
         // A shape that is one is refused for want of memory alone.
-        Err(_) => Outcome {
-            status: 5,
-            pass: None,
-        },
+        Err(_) => Outcome::bare(5),
     }
 }
 

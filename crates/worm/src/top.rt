@@ -11,13 +11,15 @@ use crate::script::run_script;
 use crate::servers::run_server;
 use board_rule::Pass;
 use command_line::{Command, read_command};
+use map_model::Refusal;
 use outside::{Door, Sink, Source};
 use std::alloc::Global;
 use std::sync::Wait;
 use std::thread::Threads;
 
 /// How a command ended, and the pass of its first lane, where an index was made. What the pass has seen are the calls
-/// that were answered.
+/// that were answered. Beside them stand how many calls were refused for another lane or for want of room, up to
+/// 2^64 - 1, and the first lane's last such refusal.
 ///
 /// | status | the command |
 /// |---|---|
@@ -32,6 +34,24 @@ use std::thread::Threads;
 pub struct Outcome {
     pub status: u8,
     pub pass: Option<Pass>,
+    pub refusals: u64,
+    pub last: Option<Refusal>,
+}
+
+impl Outcome {
+    /// An end with no index.
+    pub(crate) fn bare(status: u8) -> Outcome
+        ensures status { result.status ≡ status }
+        ensures pass { result.pass ≡ None }
+        ensures refusals { (result.refusals ≡ 0) × (result.last ≡ None) }
+    {
+        Outcome {
+            status,
+            pass: None,
+            refusals: 0,
+            last: None,
+        }
+    }
 }
 
 /// Carries out the command of these words, which are those after the program's name.
@@ -51,16 +71,13 @@ pub fn worm<R: Threads + Wait + Sync, S: Source, K: Sink, D: Door + Send>(
     ensures did { Did (command (map string_bytes words.now.items)) result.status
         (ends (S.told source.old) (S.faults source.old) (K.written sink.old) (K.faults sink.old) (D.closed door.old) (D.closings door.old))
         (ends (S.told source.new) (S.faults source.new) (K.written sink.new) (K.faults sink.new) (D.closed door.new) (D.closings door.new))
-        result.pass }
+        result.pass result.refusals result.last }
     ensures read_fault { result.status ≡ 3 → Rose (S.faults source.old) (S.faults source.new) }
     ensures write_fault { result.status ≡ 4 → Rose (K.faults sink.old) (K.faults sink.new) }
     ensures door_fault { result.status ≡ 6 → Rose (D.faults door.old) (D.faults door.new) }
 {
     match read_command(words) {
-        None => Outcome {
-            status: 2,
-            pass: None,
-        },
+        None => Outcome::bare(2),
         Some(Command::Run { shape }) => run_script(alloc, &shape, source, sink),
         Some(
             Command::Lanes {
