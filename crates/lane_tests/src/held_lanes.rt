@@ -1,4 +1,6 @@
 //! Gates that hold a lane until another has gone on.
+ghost use Rattle.std.specs.Prelude.{◌<◌};
+
 use lane_runner::run_lanes;
 use lane_stores::SharedMap;
 use outside::Gate;
@@ -81,7 +83,9 @@ fn scripts(alloc: Global, lanes: u32) -> Result<Vec<Vec<u8>>, AllocError> {
 
 // Whether so many lanes of an empty map answer their scripts of gets round this gate. A call that meets another lane
 // is tried again without end.
-fn finish<R: Threads + Wait + Sync, G: Gate>(rt: &R, alloc: Global, lanes: u32, gate: &G) -> bool {
+fn finish<R: Threads + Wait + Sync, G: Gate>(rt: &R, alloc: Global, lanes: u32, gate: &G) -> bool
+    requires { 0 < lanes }
+{
     let Ok((map, first)) = SharedMap::make(alloc, lanes) else {
         return false;
     };

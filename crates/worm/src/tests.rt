@@ -1,6 +1,7 @@
 //! Commands over sources, sinks and doors in memory.
 use super::fault_text;
-use crate::top::worm;
+use crate::top::{Outcome, worm};
+use map_model::{Full, Refusal, TableFull};
 use outside::{MemDoor, MemSink, MemSource, Source};
 use std::alloc::{AllocError, Global};
 use std::process::Abort;
@@ -314,6 +315,101 @@ fn answers_addresses<R: Threads + Wait + Sync>(rt: &R, alloc: Global) -> bool {
 fn commands_write_what_they_should(rt: HostRuntime) {
     assert!(rt; writes_all(&rt, rt.alloc()));
     assert!(rt; answers_addresses(&rt, rt.alloc()));
+}
+
+// The outcome of a command over an input that is read whole, and what it wrote.
+fn outcome_of<R: Threads + Wait + Sync>(
+    rt: &R,
+    alloc: Global,
+    texts: &[&str],
+    input: &[u8],
+) -> Result<(Outcome, MemSink), AllocError> {
+    let words = words(alloc, texts)?;
+    let mut ends = Ends::new(alloc, input, 4096, &[], &[])?;
+    let outcome = worm(
+        rt,
+        alloc,
+        &words,
+        &mut ends.source,
+        &mut ends.sink,
+        &mut ends.door,
+    );
+    Ok((outcome, ends.sink))
+}
+
+// How many lines of an output begin so.
+fn lines_of(output: &[u8], front: &[u8]) -> u64 {
+    let mut count = 0u64;
+    for line in output.split(|&byte| byte == b'\n') {
+        if line.starts_with(front) {
+            count = count.saturating_add(1);
+        }
+    }
+    count
+}
+
+// Whether a run tells how many puts had no room, and why the last one hadn't.
+fn tells_refusals<R: Threads + Wait + Sync>(rt: &R, alloc: Global) -> bool {
+    let texts = [
+        "run", "--leaves", "1", "--soft", "2", "--hard", "3", "--merge-sum", "1",
+    ];
+    let full = Refusal::Full(Full::Crowded {
+        count: 3,
+        hard: 3,
+        why: TableFull::Leaves { used: 1, cap: 1 },
+    });
+    match outcome_of(
+        rt,
+        alloc,
+        &texts,
+        b"PUT a 1\nPUT b 1\nPUT c 1\nPUT d 1\nGET a\nPUT e 1\nDEL a\n",
+    ) {
+        Ok((outcome, _)) => outcome.refusals == 2 && outcome.last == Some(full),
+        Err(_) => false,
+    }
+}
+
+// Lines for four lanes, which put and take out the same few keys.
+fn crossing(alloc: Global) -> Result<Vec<u8>, AllocError> {
+    let mut input = Vec::new(alloc);
+    for i in 0..2000u32 {
+        input.extend_from_slice(format!(in alloc; "{} PUT k{} {i}\n", i % 4, i % 5)?.as_bytes())?;
+        input.extend_from_slice(format!(in alloc; "{} DEL k{}\n", i % 4, i % 3)?.as_bytes())?;
+    }
+    Ok(input)
+}
+
+// Whether lanes that try a call so often before they give it up have been refused so often for each line AGAIN.
+fn tries_so_often<R: Threads + Wait + Sync>(
+    rt: &R,
+    alloc: Global,
+    input: &[u8],
+    word: &str,
+    tries: u64,
+) -> bool {
+    match outcome_of(rt, alloc, &["lanes", "4", "--tries", word], input) {
+        Ok((outcome, sink)) => {
+            let given_up = lines_of(sink.bytes(), b"AGAIN ");
+            outcome.status == 0 && given_up.saturating_mul(tries) <= outcome.refusals
+        }
+        Err(_) => false,
+    }
+}
+
+fn tries_as_told<R: Threads + Wait + Sync>(rt: &R, alloc: Global) -> bool {
+    match crossing(alloc) {
+        Ok(input) => {
+            tries_so_often(rt, alloc, &input, "1", 1)
+                && tries_so_often(rt, alloc, &input, "1000", 1000)
+        }
+        Err(_) => false,
+    }
+}
+
+#[test]
+fn an_outcome_tells_of_refusals(rt: HostRuntime) {
+    assert!(rt; tells_refusals(&rt, rt.alloc()));
+    assert!(rt; tries_as_told(&rt, rt.alloc()));
 }
 
 // A door with two clients, of whose calls some fail.
