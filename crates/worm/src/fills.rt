@@ -42,7 +42,12 @@ pub fn run_fill<K: Sink>(
             }
         }
         // A shape that is one is refused for want of memory alone.
-        Err(_) => Outcome::bare(5),
+        Err(_) => Outcome {
+            status: 5,
+            pass: None,
+            refusals: 0,
+            last: None,
+        },
     }
 }
 

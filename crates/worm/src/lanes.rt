@@ -45,7 +45,12 @@ pub fn run_lanes<R: Threads + Wait + Sync, S: Source, K: Sink>(
             };
             answer_all(rt, alloc, &shape, tries, input, sink)
         }
-        Err(fault) => Outcome::bare(input_status(fault)),
+        Err(fault) => Outcome {
+            status: input_status(fault),
+            pass: None,
+            refusals: 0,
+            last: None,
+        },
     }
 }
 
@@ -78,7 +83,12 @@ fn answer_all<R: Threads + Wait + Sync, K: Sink>(
             }
         }
         // A shape that is one is refused for want of memory alone.
-        Err(_) => Outcome::bare(5),
+        Err(_) => Outcome {
+            status: 5,
+            pass: None,
+            refusals: 0,
+            last: None,
+        },
     }
 }
 

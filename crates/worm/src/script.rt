@@ -47,7 +47,12 @@ pub fn run_script<S: Source, K: Sink>(
             }
         }
         // A shape that is one is refused for want of memory alone.
-        Err(_) => Outcome::bare(5),
+        Err(_) => Outcome {
+            status: 5,
+            pass: None,
+            refusals: 0,
+            last: None,
+        },
     }
 }
 

@@ -37,8 +37,18 @@ pub fn run_server<R: Threads + Wait + Sync, D: Door + Send>(
 {
     match door.listen(address) {
         Ok(()) => serve_all(rt, alloc, shape, workers, sessions, door),
-        Err(Stop::Failed) => Outcome::bare(6),
-        Err(Stop::NoMemory) => Outcome::bare(5),
+        Err(Stop::Failed) => Outcome {
+            status: 6,
+            pass: None,
+            refusals: 0,
+            last: None,
+        },
+        Err(Stop::NoMemory) => Outcome {
+            status: 5,
+            pass: None,
+            refusals: 0,
+            last: None,
+        },
     }
 }
 
@@ -73,7 +83,12 @@ fn serve_all<R: Threads + Wait + Sync, D: Door + Send>(
             }
         }
         // A shape that is one is refused for want of memory alone.
-        Err(_) => Outcome::bare(5),
+        Err(_) => Outcome {
+            status: 5,
+            pass: None,
+            refusals: 0,
+            last: None,
+        },
     }
 }
 

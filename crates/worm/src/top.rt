@@ -38,22 +38,6 @@ pub struct Outcome {
     pub last: Option<Refusal>,
 }
 
-impl Outcome {
-    /// An end with no index.
-    pub(crate) fn bare(status: u8) -> Outcome
-        ensures status { result.status ≡ status }
-        ensures pass { result.pass ≡ None }
-        ensures refusals { (result.refusals ≡ 0) × (result.last ≡ None) }
-    {
-        Outcome {
-            status,
-            pass: None,
-            refusals: 0,
-            last: None,
-        }
-    }
-}
-
 /// Carries out the command of these words, which are those after the program's name.
 pub fn worm<R: Threads + Wait + Sync, S: Source, K: Sink, D: Door + Send>(
     rt: &R,
@@ -77,7 +61,12 @@ pub fn worm<R: Threads + Wait + Sync, S: Source, K: Sink, D: Door + Send>(
     ensures door_fault { result.status ≡ 6 → Rose (D.faults door.old) (D.faults door.new) }
 {
     match read_command(words) {
-        None => Outcome::bare(2),
+        None => Outcome {
+            status: 2,
+            pass: None,
+            refusals: 0,
+            last: None,
+        },
         Some(Command::Run { shape }) => run_script(alloc, &shape, source, sink),
         Some(
             Command::Lanes {
