@@ -351,7 +351,15 @@ fn lines_of(output: &[u8], front: &[u8]) -> u64 {
 // Whether a run tells how many puts had no room, and why the last one hadn't.
 fn tells_refusals<R: Threads + Wait + Sync>(rt: &R, alloc: Global) -> bool {
     let texts = [
-        "run", "--leaves", "1", "--soft", "2", "--hard", "3", "--merge-sum", "1",
+        "run",
+        "--leaves",
+        "1",
+        "--soft",
+        "2",
+        "--hard",
+        "3",
+        "--merge-sum",
+        "1",
     ];
     let full = Refusal::Full(Full::Crowded {
         count: 3,
