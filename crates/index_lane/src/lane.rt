@@ -60,19 +60,6 @@ impl<'i> Lane<'i> {
         }
     }
 
-    /// The lane's pass, for calls of the index itself.
-    pub fn into_pass(self) -> Pass
-        ensures { result ≡ self.entry.pass }
-    {
-        let Lane {
-            index: _,
-            pass,
-            refusals: _,
-            last: _,
-        } = self;
-        pass
-    }
-
     /// The lane's pass, its count of refusals and the last of them.
     pub fn into_parts(self) -> (Pass, u64, Option<Refusal>)
         ensures { result ≡ (self.entry.pass, self.entry.refusals, self.entry.last) }
