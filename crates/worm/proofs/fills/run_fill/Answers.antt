@@ -10,5 +10,5 @@ returns-in-Ok-clause-filled g c =
     let made = c.in-Ok.ensures in
     let lane = c.new-lane.ensures in
     filled _ c.new-lane.result.index.now.board.shape _ _ _ c.fill-end.result _ _ _ _ _ _ _ _ _ _ _
-    (ap (λ (i : Index). i.board.shape) lane.index ∙ made.shape) (ap lane_of (lane.pass.0 ∙ made.lane)) (lane.pass.1 ∙ made.sole) lane.counted.0 lane.counted.1 lane.seen c.into_parts.ensures
+    (ap (λ (i : Index). i.board.shape) lane.index ∙ made.shape) (ap lane_of (lane.pass.0 ∙ made.lane)) (lane.pass.1 ∙ made.sole) lane.counted.0 lane.counted.1 lane.seen c.into_parts-pass.ensures
     c.requires (omega arith) c.status_of.ensures c.fill-end.ensures.filled

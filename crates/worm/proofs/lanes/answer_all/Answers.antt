@@ -16,5 +16,5 @@ returns-in-Ok-clause-answered g c =
     let shape = ap (λ (i : Index). i.board.shape) lane.index ∙ made.shape in
     let lanes = (origin_apart _ _ _ _ ends.kept.1).0 in
     answered _ c.new-lane.result.index.now.board.shape _ _ c.answer_input-end.result _ _ _ _ _ _ _ _ _ _
-    shape (lane.pass.1 ∙ made.sole) lane.counted.0 lane.seen c.into_parts.ensures
+    shape (lane.pass.1 ∙ made.sole) lane.counted.0 lane.seen c.into_parts-pass.ensures
     first.steady.legal first.steady.numbered _ (lanes ∙ ap (λ (k : Shape). k.lanes) shape) first.steady.lanes c.lanes_status.ensures ends.alone ends.among ends.said

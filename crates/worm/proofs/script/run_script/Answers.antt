@@ -11,5 +11,5 @@ returns-in-Ok-clause-ran g c =
     let lane = c.new-lane.ensures in
     let ends = c.serve_sole-end.ensures in
     ran _ c.new-lane.result.index.now.board.shape c.serve_sole-end.result _ _ _ _ _ _ _ _ _ _ _ _ _ _ _ _ _ _
-    (ap (λ (i : Index). i.board.shape) lane.index ∙ made.shape) (ap lane_of (lane.pass.0 ∙ made.lane)) (lane.pass.1 ∙ made.sole) lane.counted.0 lane.counted.1 lane.seen c.into_parts.ensures
+    (ap (λ (i : Index). i.board.shape) lane.index ∙ made.shape) (ap lane_of (lane.pass.0 ∙ made.lane)) (lane.pass.1 ∙ made.sole) lane.counted.0 lane.counted.1 lane.seen c.into_parts-pass.ensures
     c.requires c.status_of.ensures ends.read ends.write ends.session ends.output

@@ -11,5 +11,5 @@ returns-in-Ok-clause-served g c =
     let lane = c.new-lane.ensures in
     let status = c.serve_lanes-status.ensures in
     served _ c.new-lane.result.index.now.board.shape _ _ _ _ _ _ _ _ _ _ _ _ _ _ _ _
-    (ap (λ (i : Index). i.board.shape) lane.index ∙ made.shape) (ap lane_of (lane.pass.0 ∙ made.lane)) (lane.pass.1 ∙ made.sole) lane.counted.0 lane.counted.1 lane.seen c.into_parts.ensures
+    (ap (λ (i : Index). i.board.shape) lane.index ∙ made.shape) (ap lane_of (lane.pass.0 ∙ made.lane)) (lane.pass.1 ∙ made.sole) lane.counted.0 lane.counted.1 lane.seen c.into_parts-pass.ensures
     status.status c.serve_lanes-status.new.first.steady.legal status.done status.wanting status.alone
