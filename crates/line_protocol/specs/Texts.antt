@@ -1,5 +1,5 @@
 -- The lines of answers.
-use Rattle.std.specs.Prelude.{ℕ, List, [], ◌∷◌, codes}
+use Rattle.std.specs.Prelude.{ℕ, List, [], ◌∷◌, Bool, true, false, codes}
 use Rattle.map_model.specs.declared.refusal.Again as again
 use Rattle.map_model.specs.declared.refusal.Again.TheVariants.{Locked, Changed, Stale, Moved, Turn, Pinned, Bin, Filled}
 use Rattle.map_model.specs.declared.refusal.Full as full
@@ -56,3 +56,17 @@ text (Fault cause) = fault_text cause
 text (Full cause) = full_text cause
 text (Again cause) = again_text cause
 text NoMemory = number_line (codes "NOMEM") []
+
+-- whether the line is one of those that nearly all puts and dels have, with no number and no bytes of its own
+abbrev pub is_whole : Answer → Bool
+is_whole New = true
+is_whole Set = true
+is_whole (Value value) = false
+is_whole Absent = true
+is_whole Gone = true
+is_whole (End count) = false
+is_whole Bye = false
+is_whole (Fault cause) = false
+is_whole (Full cause) = false
+is_whole (Again cause) = false
+is_whole NoMemory = false

@@ -1,7 +1,7 @@
 //! The lines of answers.
-ghost use Rattle.std.specs.Prelude.{◌≡◌, IfSome};
+ghost use Rattle.std.specs.Prelude.{◌≡◌, is_some, IfSome};
 ghost use Rattle.line_protocol.specs.ReplyLine.{AppendsAll};
-ghost use Rattle.line_protocol.specs.Texts.{text, again_text, full_text, fault_text, pair_line};
+ghost use Rattle.line_protocol.specs.Texts.{text, again_text, full_text, fault_text, is_whole, pair_line};
 
 use crate::Fault;
 use crate::reply_line::{append_line, append_numbers, append_pair, append_value};
@@ -35,10 +35,12 @@ pub enum Answer<'a> {
     NoMemory,
 }
 
-/// The line of an answer that has no number and no bytes of its own.
+/// The line of an answer to a put or a del, or that there is no such key: it has no number and no bytes of its own.
+/// There is none for any other answer.
 #[inline(always)]
 pub fn whole_line(answer: &Answer<'_>) -> Option<&'static [u8]>
-    ensures { IfSome result (λ line. line.now ≡ text answer.now) }
+    ensures line { IfSome result (λ line. line.now ≡ text answer.now) }
+    ensures whole { is_some result ≡ is_whole answer.now }
 {
     match answer {
         Answer::New => Some(b"NEW\n"),
