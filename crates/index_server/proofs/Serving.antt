@@ -1,7 +1,9 @@
 -- How the sessions of one connection after another add up.
-use Rattle.std.proofs.Common.{◌≡◌, ℕ, List, [], ◌∷◌, ◌++◌, Bool, false, ◌||◌, refl, sym, ap, subst, ◌∙◌, append_assoc, Option, Some, None, Result, Ok, Err}
+use Rattle.std.proofs.Common.{◌≡◌, ℕ, ◌+◌, arith, length, length-append, List, [], ◌∷◌, ◌++◌, Bool, false, ◌||◌, refl, sym, ap, subst, ◌∙◌, append_assoc, Option, Some, None, Result, Ok, Err}
 use Rattle.std.proofs.Math.Seq.{take-nil}
 use Rattle.std.proofs.lemmas.List.{append-nil}
+use mathlib.Core.List.{IsPrefix}
+use Rattle.line_protocol.specs.Requests.{Asked}
 use Rattle.line_protocol.specs.Served.{served}
 use Rattle.map_model.specs.History.{Entry, IsLegal}
 use Rattle.map_model.specs.Ordered.{Follows, Grows}
@@ -13,12 +15,13 @@ use Rattle.outside.specs.Reading.{Told, Took, Ended}
 use Rattle.outside.specs.Writing.{Wrote}
 use Rattle.outside.specs.declared.stop.Stop.{Stop}
 use Rattle.session.specs.Sessions.{Session, InTurn, SaidBy}
-use Rattle.session.specs.Transcripts.{Exchange}
+use Rattle.session.specs.Transcripts.{Exchange, Transcribes, AreServed}
 use Rattle.session.specs.declared.session.SessionEnd.{SessionEnd}
 use Rattle.session.specs.declared.session.SessionEnd.TheVariants as ends
-use Rattle.session.proofs.Joining.{transcribes_none, transcribes_then, transcribes_rest}
+use Rattle.session.proofs.Joining.{transcribes_none, transcribes_then, transcribes_rest, transcribes_told}
 use Rattle.session.proofs.PlainSessions.{written_by, wrote_by}
 use Rattle.index_server.specs.Connections.{IsSession, AreSessions, ClosedBehind, AreClosed, ServesClosed}
+use Rattle.index_server.specs.Hands.{NothingFits, AreMany, ServesCounted, ServesMany}
 use Rattle.index_server.specs.declared.connection.TheConstants.{CONNECTION_BYTES}
 
 -- an empty write leaves what was written
@@ -35,6 +38,14 @@ said_first ends.ReadFault w v text said = refl
 said_first ends.WriteFault w v text said = (said.0, said.1, refl)
 said_first ends.NoMemory w v text said = (said.0, said.1, refl)
 said_first (ends.Spent taken) w v text said = refl
+
+-- the exchanges are the session of one connection, which is as its ends tell
+pub record IsOne (t u : Option Told) (w v : Option (List ℕ)) (pieces : List Exchange) : Type 0 where
+  pub connection : Connection
+  pub took : Took t u connection.taken
+  pub answered : Ended t u connection.ended
+  pub wrote : Wrote w v connection.written
+  pub sessions : AreSessions (connection ∷ []) pieces
 
 -- where a door tells the connection that it closed, it is the one whose session it was
 closed_one : (before now : Option (List Connection)) (t u : Option Told) (w v : Option (List ℕ)) (bytes : List ℕ) (ended : Bool) (text : List ℕ)
@@ -75,12 +86,12 @@ module _ (lane : ℕ) (sole : Bool) (fits : List Entry → Type 0) where
   pub serves_rested : (a b : List Entry → Type 0) (i j : ℕ) (u v : Option Refusal) (closed : Option (List Connection)) → ((old : List Entry) → a old → IsLegal old) → j ≡ i → v ≡ u → Follows a b (λ old new. new ≡ old) → Follows a b (ServesClosed lane sole fits i j u v closed closed)
   serves_rested a b i j u v closed legal same last rest = transcribes_rest None lane sole fits a a b i i j u u v _ (AreClosed closed closed) same last (serves_none a i u closed legal) rest
 
-  -- one connection
-  serves_one : (a b : List Entry → Type 0) (i j : ℕ) (m n : Option Refusal) (before now : Option (List Connection)) (end : SessionEnd) (t u : Option Told) (w v : Option (List ℕ))
-      → IsUnread t → IsUnwritten w → Closes before now u v → Session end CONNECTION_BYTES t u w v None lane sole fits i j m n a b → Follows a b (ServesClosed lane sole fits i j m n before now)
-  serves_one a b i j m n before now end t u w v unread unwritten closes s = follows_weaker a b _ _ told s.replies
+  -- one connection, as its ends tell it
+  session_one : (a b : List Entry → Type 0) (i j : ℕ) (m n : Option Refusal) (end : SessionEnd) (t u : Option Told) (w v : Option (List ℕ))
+      → Session end CONNECTION_BYTES t u w v None lane sole fits i j m n a b → Follows a b (Transcribes None lane sole fits i j m n (λ (asked : List Asked). Unit {0}) (IsOne t u w v))
+  session_one a b i j m n end t u w v s = follows_weaker a b _ _ told s.replies
     where
-      told : (old new : List Entry) → InTurn end (served s.front false) (served s.bytes s.ended) w v None lane sole fits i j m n old new → ServesClosed lane sole fits i j m n before now old new
+      told : (old new : List Entry) → InTurn end (served s.front false) (served s.bytes s.ended) w v None lane sole fits i j m n old new → Transcribes None lane sole fits i j m n (λ (asked : List Asked). Unit {0}) (IsOne t u w v) old new
       told old new turn =
           let r = turn.replies in
           let written = written_by end w v r.output r.said in
@@ -95,12 +106,32 @@ module _ (lane : ℕ) (sole : Bool) (fits : List Entry → Type 0) where
           record {
             pieces = r.transcript.pieces;
             asked = tt;
-            said = (connection ∷ [], closed_one before now t u w v s.bytes s.ended written unread unwritten s.took s.answered (wrote_by end w v r.output r.said) closes, (end, r.transcript.pieces, [], sym (append-nil r.transcript.pieces), is, refl));
+            said = record {
+              connection = connection;
+              took = s.took;
+              answered = s.answered;
+              wrote = wrote_by end w v r.output r.said;
+              sessions = (end, r.transcript.pieces, [], sym (append-nil r.transcript.pieces), is, refl);
+            };
             grows = subst (λ E. Grows lane sole E old new) (sym r.transcript.of_entries) r.grows;
             each = r.transcript.each;
             rose = r.rose;
             ends = r.ends;
           }
+
+  -- it was closed
+  serves_one : (a b : List Entry → Type 0) (i j : ℕ) (m n : Option Refusal) (before now : Option (List Connection)) (end : SessionEnd) (t u : Option Told) (w v : Option (List ℕ))
+      → IsUnread t → IsUnwritten w → Closes before now u v → Session end CONNECTION_BYTES t u w v None lane sole fits i j m n a b → Follows a b (ServesClosed lane sole fits i j m n before now)
+  serves_one a b i j m n before now end t u w v unread unwritten closes s =
+      transcribes_told None lane sole fits a b i j m n _ _ (IsOne t u w v) (AreClosed before now) (λ xs all. all)
+      (λ xs one. (one.connection ∷ [], closed_one before now t u w v one.connection.taken one.connection.ended one.connection.written unread unwritten one.took one.answered one.wrote closes, one.sessions))
+      (session_one a b i j m n end t u w v s)
+
+  -- it is counted
+  counted_one : (a b : List Entry → Type 0) (i j : ℕ) (m n : Option Refusal) (end : SessionEnd) (t u : Option Told) (w v : Option (List ℕ))
+      → Session end CONNECTION_BYTES t u w v None lane sole fits i j m n a b → Follows a b (Transcribes None lane sole fits i j m n (λ (asked : List Asked). Unit {0}) (AreMany 1))
+  counted_one a b i j m n end t u w v s =
+      transcribes_told None lane sole fits a b i j m n _ _ (IsOne t u w v) (AreMany 1) (λ xs all. all) (λ xs one. (one.connection ∷ [], refl, one.sessions)) (session_one a b i j m n end t u w v s)
 
 -- one connection more
 pub serves_more : (lane : ℕ) (sole : Bool) (fits less : List Entry → Type 0) (a b c : List Entry → Type 0) (i j k : ℕ) (l m n : Option Refusal) (before now later : Option (List Connection)) (end : SessionEnd) (t u : Option Told) (w v : Option (List ℕ))
@@ -110,3 +141,23 @@ serves_more lane sole fits less a b c i j k l m n before now later end t u w v f
     transcribes_then None lane sole fits a b c less i j k l m n _ _ _ (AreClosed before now) (AreClosed now later) (AreClosed before later) fewer (λ xs ys p q. tt)
     (λ xs ys any p q. (p.0 ++ q.0, closed_then before now later p.0 q.0 p.1 q.1, sessions_then p.0 q.0 xs ys p.2 q.2))
     first (serves_one lane sole less b c j k m n now later end t u w v unread unwritten closes s)
+
+-- no connection is counted yet
+pub counted_rested : (lane : ℕ) (sole : Bool) (a b : List Entry → Type 0) (i j : ℕ) (u v : Option Refusal) (many : ℕ) → ((old : List Entry) → a old → IsLegal old) → j ≡ i → v ≡ u → 0 ≡ many → Follows a b (λ old new. new ≡ old) → Follows a b (ServesCounted lane sole i j u v many)
+counted_rested lane sole a b i j u v many legal same last zero rest =
+    transcribes_rest None lane sole NothingFits a a b i i j u u v _ (AreMany many) same last (transcribes_none None lane sole NothingFits a i u _ (AreMany many) legal tt ([], zero, refl)) rest
+
+-- one connection more is counted
+pub counted_more : (lane : ℕ) (sole : Bool) (less : List Entry → Type 0) (a b c : List Entry → Type 0) (i j k : ℕ) (l m n : Option Refusal) (many more : ℕ) (end : SessionEnd) (t u : Option Told) (w v : Option (List ℕ)) → more ≡ many + 1
+    → Session end CONNECTION_BYTES t u w v None lane sole less j k m n b c → Follows a b (ServesCounted lane sole i j l m many) → Follows a c (ServesCounted lane sole i k l n more)
+counted_more lane sole less a b c i j k l m n many more end t u w v one_more s first =
+    transcribes_then None lane sole NothingFits a b c less i j k l m n _ _ _ (AreMany many) (AreMany 1) (AreMany more) (λ h none. absurd none) (λ xs ys p q. tt)
+    (λ xs ys any p q. (p.0 ++ q.0, omega (arith, length-append p.0 q.0, p.1, q.1, one_more), sessions_then p.0 q.0 xs ys p.2 q.2))
+    first (counted_one lane sole less b c j k m n end t u w v s)
+
+-- what a lane served, by the histories that it had seen and has seen
+pub counted_serves : (a b : List Entry → Type 0) (lane : ℕ) (sole : Bool) (i j : ℕ) (m n : Option Refusal) (many : ℕ) (old new : List Entry) → a old → ((h : List Entry) → b h → h ≡ new) → Follows a b (ServesCounted lane sole i j m n many) → IsPrefix old new × (sole ≡ false → ServesMany lane many old new)
+counted_serves a b lane sole i j m n many old new stood only follows =
+    let found = follows old stood in
+    let r = subst (ServesCounted lane sole i j m n many old) (only found.0 found.1) found.2 in
+    (r.grows.begins, λ among. record { pieces = r.pieces; sessions = r.said; mine = r.grows.mine; each = subst (λ s. AreServed None lane s NothingFits old r.pieces) among r.each })

@@ -5,6 +5,7 @@ ghost use Rattle.map_model.specs.History.{Entry};
 ghost use Rattle.map_model.specs.Ordered.{Follows};
 ghost use Rattle.map_model.specs.declared.refusal.ForkFault.{ForkFault};
 ghost use Rattle.index_server.specs.Connections.{ServesClosed};
+ghost use Rattle.index_server.specs.Ends.{EachClosed};
 
 use crate::connection::serve_connection;
 use crate::end::DoorEnd;
@@ -34,6 +35,8 @@ pub fn serve_alone<R: Wait + Sync, T: Ordered, D: Door>(
     ensures done { result ≡ DoorEnd.Done → (0 < sessions)
         × RoseBy sessions (D.closings door.old) (D.closings door.new)
         × (D.closings door.new ≤ D.closings door.old + sessions) }
+    ensures accepted { result ≡ DoorEnd.Done → D.opened door.new ≡ D.opened door.old + sessions }
+    ensures returned { EachClosed (D.opened door.old) (D.opened door.new) (D.closings door.old) (D.closings door.new) }
     ensures fault { result ≡ DoorEnd.DoorFault → Rose (D.faults door.old) (D.faults door.new) }
     ensures never { (fault : ForkFault) → result ≢ DoorEnd.Lanes fault }
     ensures kept { (T.lane store.new ≡ T.lane store.old) × (T.sole store.new ≡ T.sole store.old)

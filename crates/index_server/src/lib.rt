@@ -8,6 +8,7 @@ mod end;
 mod forks;
 mod server;
 mod shared_door;
+mod worker;
 mod workers;
 
 pub use alone::serve_alone;

@@ -1,36 +1,50 @@
 //! A door that workers share.
-ghost use Rattle.std.specs.Prelude.{◌≡◌, ◌≤◌, ◌+◌, ℕ, true};
+ghost use Rattle.std.specs.Prelude.{◌≡◌, ◌<◌, ◌≤◌, ◌+◌, ◌-◌, ◌^◌, min, ℕ, true};
 ghost use Rattle.std.specs.Bool.{OnTrue};
 ghost use Rattle.counts.specs.Counts.{Rose, RoseBy};
 
 use counts::raise;
 use outside::{Door, Stop};
-use std::marker::{Brand, PhantomData};
+use std::marker::Brand;
+use std::sync::ledger::{Book, Ledger, Share};
 
-/// What a door had counted when it was shared. Each call that shares one picks it.
-pub trait Begun {
+/// For how many connections a door is shared, and what it had counted then. Each call that shares one picks it.
+pub trait Begun: Ledger {
+    ghost sessions: { ℕ };
+
+    ghost opened: { ℕ };
+
     ghost closings: { ℕ };
 
     ghost faults: { ℕ };
 }
 
 impl Begun for Brand {
+    ghost sessions = { 0 };
+
+    ghost opened = { 0 };
+
     ghost closings = { 0 };
 
     ghost faults = { 0 };
 }
 
-/// A door, with how many connections were accepted and closed since it was shared. A worker gives a connection back by
-/// its own two ends: that alone ties replies to requests here, as no contract tells what was served between them.
+/// A door, with how many connections were accepted and closed since it was shared. Each worker's share counts those
+/// that it closed, and the book all of them.
 pub(crate) struct SharedDoor<D: Door, B: Begun> {
     door: D,
     sessions: u64,
     accepted: u64,
     closed: u64,
     failed: bool,
-    begun: PhantomData<B>,
-    ghost closings: { RoseBy closed B.closings (D.closings door) },
-    ghost most: { D.closings door ≤ B.closings + closed },
+    book: Book<B>,
+    ghost counted: { closed ≡ min book.total (2 ^ 64 - 1) },
+    ghost closings: { RoseBy book.total B.closings (D.closings door) },
+    ghost most: { D.closings door ≤ B.closings + book.total },
+    ghost bound: { D.closings door ≤ B.closings + closed },
+    ghost asked: { sessions ≡ B.sessions },
+    ghost opened: { 0 < sessions → D.opened door ≡ B.opened + accepted },
+    ghost enough: { 0 < sessions → accepted ≤ sessions },
     ghost faults: { B.faults ≤ D.faults door },
     ghost fault: { failed ≡ true → Rose B.faults (D.faults door) },
 }
@@ -44,8 +58,10 @@ pub(crate) enum Next<D: Door> {
 
 impl<D: Door, B: Begun> SharedDoor<D, B> {
     /// Shares a door for so many connections; 0 is no bound.
-    pub(crate) fn new(door: D, sessions: u64) -> SharedDoor<D, B>
-        requires { (D.closings door ≡ B.closings) × (D.faults door ≡ B.faults) }
+    pub(crate) fn new(door: D, book: Book<B>, sessions: u64) -> SharedDoor<D, B>
+        requires empty { book.total ≡ 0 }
+        requires begun { (sessions ≡ B.sessions) × (D.opened door ≡ B.opened) × (D.closings door ≡ B.closings)
+            × (D.faults door ≡ B.faults) }
     {
         SharedDoor {
             door,
@@ -53,7 +69,7 @@ impl<D: Door, B: Begun> SharedDoor<D, B> {
             accepted: 0,
             closed: 0,
             failed: false,
-            begun: PhantomData,
+            book,
         }
     }
 
@@ -78,27 +94,35 @@ impl<D: Door, B: Begun> SharedDoor<D, B> {
         }
     }
 
-    /// Gives a connection back.
-    pub(crate) fn close(&mut self, input: D::Input, output: D::Output)
-        requires { D.Input.connection input ≡ D.Output.connection output }
+    /// Gives a connection back, and counts it in the worker's share.
+    pub(crate) fn close(&mut self, input: D::Input, output: D::Output, share: &mut Share<B>)
+        requires part { 0 < share.old.parts }
+        requires own { D.Input.connection input ≡ D.Output.connection output }
+        ensures counted { share.new.amount ≡ share.old.amount + 1 }
+        ensures part { share.new.parts ≡ share.old.parts }
     {
         self.door.close(input, output);
+        self.book.add(share, 1);
         self.closed = raise(self.closed);
     }
 
-    /// The door, whether it failed, and how many connections were closed.
-    pub(crate) fn finish(self) -> (D, bool, u64)
+    /// The door, whether it failed, and how many connections were accepted and closed: as many as all shares counted.
+    pub(crate) fn finish(self, all: &mut Share<B>) -> (D, bool, u64, u64)
+        requires { all.old.parts ≡ B.parts }
+        ensures counted { (RoseBy all.old.amount B.closings (D.closings result.0)) × (D.closings result.0 ≤ B.closings + all.old.amount) }
+        ensures opened { 0 < B.sessions → D.opened result.0 ≡ B.opened + result.2 }
         ensures fault { OnTrue result.1 (Rose B.faults (D.faults result.0)) }
-        ensures closings { RoseBy result.2 B.closings (D.closings result.0) × (D.closings result.0 ≤ B.closings + result.2) }
+        ensures closings { RoseBy result.3 B.closings (D.closings result.0) × (D.closings result.0 ≤ B.closings + result.3) }
     {
         let SharedDoor {
             door,
             sessions: _,
-            accepted: _,
+            accepted,
             closed,
             failed,
-            begun: _,
+            mut book,
         } = self;
-        (door, failed, closed)
+        book.audit(all);
+        (door, failed, accepted, closed)
     }
 }

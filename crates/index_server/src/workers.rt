@@ -1,26 +1,33 @@
 //! Workers that share a door.
-ghost use Rattle.std.specs.Prelude.{◌≡◌, map};
-ghost use mathlib.Core.List.{IsPrefix};
+ghost use Rattle.std.specs.Prelude.{◌≡◌, ◌<◌, ◌≤◌, ◌-◌, false};
 ghost use Rattle.map_model.specs.Ordered.{Follows};
+ghost use Rattle.index_server.specs.Hands.{ServesCounted, Worked, AllWorked};
 
 use crate::connection::serve_connection;
 use crate::shared_door::{Begun, Next, SharedDoor};
+use crate::worker::Worker;
 use map_model::{Lanes, Ordered};
 use outside::Door;
 use std::alloc::Global;
+use std::sync::ledger::Share;
 use std::sync::{Mutex, Wait};
 use std::thread;
 use std::thread::{Threads, join};
 
-/// Accepts, serves and closes connections until the door failed or enough were accepted. The store rests while its
-/// worker waits.
-fn work<B: Begun, R: Wait + Sync, T: Ordered, D: Door>(
+/// Accepts, serves and closes connections until the door failed or enough were accepted, and counts those closed in
+/// the share. The store rests while its worker waits.
+pub(crate) fn work<B: Begun, R: Wait + Sync, T: Ordered, D: Door>(
     rt: &R,
     alloc: Global,
     door: &Mutex<SharedDoor<D, B>>,
     store: &mut T,
+    share: &mut Share<B>,
 )
-    ensures seen { Follows (T.stands store.old) (T.stands store.new) IsPrefix }
+    requires { 0 < share.old.parts }
+    ensures served { Follows (T.stands store.old) (T.stands store.new) (ServesCounted
+        (T.lane store.old) (T.sole store.old) (T.refusals store.old) (T.refusals store.new)
+        (T.last store.old) (T.last store.new) (share.new.amount - share.old.amount)) }
+    ensures share { (share.old.amount ≤ share.new.amount) × (share.new.parts ≡ share.old.parts) }
     ensures kept { (T.lane store.new ≡ T.lane store.old) × (T.origin store.new ≡ T.origin store.old)
         × (T.room store.new ≡ T.room store.old) }
 {
@@ -31,7 +38,7 @@ fn work<B: Begun, R: Wait + Sync, T: Ordered, D: Door>(
         match next {
             Next::Serve(mut input, mut output) => {
                 serve_connection(rt, alloc, store, &mut input, &mut output);
-                door.lock(rt).close(input, output);
+                door.lock(rt).close(input, output, share);
             }
             Next::AskAgain => {}
             Next::Leave => return,
@@ -44,30 +51,28 @@ fn work_forks<B: Begun + Send + Sync, R: Threads + Wait + Sync, T: Lanes, D: Doo
     rt: &R,
     alloc: Global,
     door: &Mutex<SharedDoor<D, B>>,
-    mut lanes: Vec<T>,
-) -> Vec<T>
-    ensures origins { map (λ (t : T). T.origin t) result.items ≡ map (λ (t : T). T.origin t) lanes.items }
-    ensures rooms { map (λ (t : T). T.room t) result.items ≡ map (λ (t : T). T.room t) lanes.items }
+    mut workers: Vec<Worker<T, B>>,
+) -> Vec<Worker<T, B>>
+    ensures { AllWorked workers.items result.items }
 {
-    work_each(rt, alloc, door, lanes.as_mut_slice());
-    lanes
+    work_each(rt, alloc, door, workers.as_mut_slice());
+    workers
 }
 
 fn work_each<B: Begun + Send + Sync, R: Threads + Wait + Sync, T: Lanes, D: Door + Send>(
     rt: &R,
     alloc: Global,
     door: &Mutex<SharedDoor<D, B>>,
-    lanes: &mut [T],
+    workers: &mut [Worker<T, B>],
 )
-    ensures origins { map (λ (t : T). T.origin t) lanes.new ≡ map (λ (t : T). T.origin t) lanes.old }
-    ensures rooms { map (λ (t : T). T.room t) lanes.new ≡ map (λ (t : T). T.room t) lanes.old }
+    ensures { AllWorked workers.old workers.new }
 {
-    let count = lanes.len();
+    let count = workers.len();
     if count > 0 {
-        let serve = |_: usize, lane: &mut T|
-            ensures { (T.origin lane.exit.now ≡ T.origin lane.entry.now) × (T.room lane.exit.now ≡ T.room lane.entry.now) }
-        { work(rt, alloc, door, lane) };
-        thread::for_each_mut(rt, lanes, count, &serve);
+        let serve = |_: usize, worker: &mut Worker<T, B>|
+            ensures { Worked worker.entry.now worker.exit.now }
+        { worker.serve(rt, alloc, door) };
+        thread::for_each_mut(rt, workers, count, &serve);
     }
 }
 
@@ -76,13 +81,11 @@ fn work_first<B: Begun + Send + Sync, R: Threads + Wait + Sync, T: Lanes, D: Doo
     rt: &R,
     alloc: Global,
     door: &Mutex<SharedDoor<D, B>>,
-    mut first: T,
-) -> T
-    ensures begins { IsPrefix (T.seen first) (T.seen result) }
-    ensures kept { (T.lane result ≡ T.lane first) × (T.origin result ≡ T.origin first)
-        × (T.room result ≡ T.room first) }
+    mut first: Worker<T, B>,
+) -> Worker<T, B>
+    ensures { Worked first result }
 {
-    work(rt, alloc, door, &mut first);
+    first.serve(rt, alloc, door);
     first
 }
 
@@ -91,18 +94,15 @@ pub(crate) fn work_all<B: Begun + Send + Sync, R: Threads + Wait + Sync, T: Lane
     rt: &R,
     alloc: Global,
     door: &Mutex<SharedDoor<D, B>>,
-    first: T,
-    lanes: Vec<T>,
-) -> (Vec<T>, T)
-    ensures origins { map (λ (t : T). T.origin t) result.0.items ≡ map (λ (t : T). T.origin t) lanes.items }
-    ensures rooms { map (λ (t : T). T.room t) result.0.items ≡ map (λ (t : T). T.room t) lanes.items }
-    ensures begins { IsPrefix (T.seen first) (T.seen result.1) }
-    ensures kept { (T.lane result.1 ≡ T.lane first) × (T.origin result.1 ≡ T.origin first)
-        × (T.room result.1 ≡ T.room first) }
+    first: Worker<T, B>,
+    workers: Vec<Worker<T, B>>,
+) -> (Vec<Worker<T, B>>, Worker<T, B>)
+    ensures forks { AllWorked workers.items result.0.items }
+    ensures first { Worked first result.1 }
 {
     join(
         rt,
-        move || work_forks(rt, alloc, door, lanes),
+        move || work_forks(rt, alloc, door, workers),
         move || work_first(rt, alloc, door, first),
     )
 }

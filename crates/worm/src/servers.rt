@@ -1,7 +1,8 @@
 //! A server of the connections of a door, over an index of its own.
-ghost use Rattle.std.specs.Prelude.{◌≡◌, ◌⊎◌, ◌<◌, ◌≤◌, ◌+◌};
+ghost use Rattle.std.specs.Prelude.{◌≡◌, ◌≢◌, ◌⊎◌, ◌<◌, ◌≤◌, ◌+◌};
 ghost use Rattle.counts.specs.Counts.{Rose, RoseBy};
 ghost use Rattle.index_server.specs.Connections.{ServesClosed};
+ghost use Rattle.index_server.specs.Hands.{WorkersServe};
 ghost use Rattle.row_words.specs.Shape.{IsShape};
 ghost use Rattle.worm.specs.Servers.{ServedWith};
 
@@ -32,7 +33,8 @@ pub fn run_server<R: Threads + Wait + Sync, D: Door + Send>(
     requires workers { (1 ≤ workers) × (workers ≤ shape.now.lanes) }
     ensures status { (result.status ≡ 0) ⊎ (result.status ≡ 5) ⊎ (result.status ≡ 6) }
     ensures served { ServedWith shape.now workers sessions result.status (D.closed door.old) (D.closed door.new)
-        (D.closings door.old) (D.closings door.new) result.pass result.refusals result.last }
+        (D.opened door.old) (D.opened door.new) (D.closings door.old) (D.closings door.new)
+        result.pass result.refusals result.last }
     ensures door_fault { result.status ≡ 6 → Rose (D.faults door.old) (D.faults door.new) }
 {
     match door.listen(address) {
@@ -65,7 +67,8 @@ fn serve_all<R: Threads + Wait + Sync, D: Door + Send>(
     requires workers { (1 ≤ workers) × (workers ≤ shape.now.lanes) }
     ensures status { (result.status ≡ 0) ⊎ (result.status ≡ 5) ⊎ (result.status ≡ 6) }
     ensures served { ServedWith shape.now workers sessions result.status (D.closed door.old) (D.closed door.new)
-        (D.closings door.old) (D.closings door.new) result.pass result.refusals result.last }
+        (D.opened door.old) (D.opened door.new) (D.closings door.old) (D.closings door.new)
+        result.pass result.refusals result.last }
     ensures door_fault { result.status ≡ 6 → Rose (D.faults door.old) (D.faults door.new) }
 {
     match Index::make(alloc, shape) {
@@ -107,13 +110,17 @@ fn serve_lanes<R: Threads + Wait + Sync, T: Lanes, D: Door + Send>(
     ensures done { result ≡ 0 → (0 < sessions)
         × RoseBy sessions (D.closings door.old) (D.closings door.new)
         × (D.closings door.new ≤ D.closings door.old + sessions) }
+    ensures accepted { result ≡ 0 → D.opened door.new ≡ D.opened door.old + sessions }
     ensures wanting { result ≡ 5 → (D.closed door.new ≡ D.closed door.old)
-        × (D.closings door.new ≡ D.closings door.old) × (T.seen first.new ≡ T.seen first.old) }
+        × (D.opened door.new ≡ D.opened door.old) × (D.closings door.new ≡ D.closings door.old) × (T.seen first.new ≡ T.seen first.old) }
     ensures fault { result ≡ 6 → Rose (D.faults door.old) (D.faults door.new) }
     ensures alone { workers ≡ 1 → ServesClosed
         (T.lane first.old) (T.sole first.old) (T.fits first.old)
         (T.refusals first.old) (T.refusals first.new) (T.last first.old) (T.last first.new)
         (D.closed door.old) (D.closed door.new) (T.seen first.old) (T.seen first.new) }
+    ensures shared { 1 < workers → result ≢ 5 → WorkersServe workers (T.lane first.old) (T.lanes first.old)
+        (D.closings door.old) (D.closings door.new) (T.seen first.old) (T.seen first.new) }
+    ensures forks { result ≢ 5 → T.room first.old + 1 ≡ T.room first.new + workers }
 {
     match serve_door(rt, alloc, door, first, workers, sessions) {
         DoorEnd::Done => 0,

@@ -53,8 +53,8 @@ pub fn worm<R: Threads + Wait + Sync, S: Source, K: Sink, D: Door + Send>(
     ensures unopened { OpensNothing (command (map string_bytes words.now.items)) → door.new ≡ door.old }
     ensures status { IsStatus result.status }
     ensures did { Did (command (map string_bytes words.now.items)) result.status
-        (ends (S.told source.old) (S.faults source.old) (K.written sink.old) (K.faults sink.old) (D.closed door.old) (D.closings door.old))
-        (ends (S.told source.new) (S.faults source.new) (K.written sink.new) (K.faults sink.new) (D.closed door.new) (D.closings door.new))
+        (ends (S.told source.old) (S.faults source.old) (K.written sink.old) (K.faults sink.old) (D.closed door.old) (D.opened door.old) (D.closings door.old))
+        (ends (S.told source.new) (S.faults source.new) (K.written sink.new) (K.faults sink.new) (D.closed door.new) (D.opened door.new) (D.closings door.new))
         result.pass result.refusals result.last }
     ensures read_fault { result.status ≡ 3 → Rose (S.faults source.old) (S.faults source.new) }
     ensures write_fault { result.status ≡ 4 → Rose (K.faults sink.old) (K.faults sink.new) }

@@ -1,4 +1,4 @@
-use Rattle.std.proofs.Common.{◌≤◌, ◌∙◌, sym, arith, rules}
+use Rattle.std.proofs.Common.{◌≡◌, ◌<◌, ◌≤◌, ◌∙◌, sym, arith, rules}
 use Rattle.index_server.proofs.Serving.{serves_rested, serves_more}
 use Rattle.index_server.proofs.alone.serve_alone.Goals as goal
 
@@ -16,6 +16,8 @@ loop-init g c =
       fits = rest.fits;
       closings = omega arith;
       most = omega arith;
+      opened = λ some. (omega arith, omega arith);
+      returned = (omega arith, omega arith, omega arith);
       faults = omega arith;
     }
 
@@ -23,6 +25,7 @@ loop-init g c =
 pub loop-preserved : goal.loop-preserved
 loop-preserved g c =
     let now = c.loop.invariant in
+    let opened : g.D.Door.opened c.accept.new.self ≡ g.D.Door.opened c.loop.door = c.in-Err-NoMemory.ensures.opened in
     let cause : g.D.Door.faults c.loop.door ≤ g.D.Door.faults c.accept.new.self = rw c.in-Err-NoMemory.field-0-is at c.in-Err-NoMemory.ensures.cause in
     record {
       can = search rules;
@@ -35,6 +38,10 @@ loop-preserved g c =
       fits = now.fits;
       closings = omega (arith, now.closings, c.accept.ensures.closings);
       most = omega (arith, now.most, c.accept.ensures.closings);
+      opened = λ some. let o = now.opened some in (omega (arith, o.0, opened), o.1);
+      returned =
+          let r = now.returned in
+          (omega (arith, r.0, opened), omega (arith, r.0, r.1, opened, c.accept.ensures.closings), omega (arith, r.0, r.2, opened, c.accept.ensures.closings));
       faults = omega (arith, now.faults, cause);
     }
 
@@ -54,6 +61,13 @@ loop-preserved-in-Ok g c =
       fits = λ h fit. one.fits h (now.fits h fit);
       closings = omega (arith, now.closings, c.accept.ensures.closings, c.close.ensures.closings, c.raise-closed.ensures.value);
       most = omega (arith, now.most, c.accept.ensures.closings, c.close.ensures.closings, c.raise-closed.ensures.value);
+      opened = λ some.
+          let o = now.opened some in
+          let less : c.loop.closed < c.args.sessions = omega (arith, some, o.1, c.else-sessions-ne0) in
+          (omega (arith, o.0, less, c.in-Ok.ensures.opened, c.close.ensures.opened, c.raise-closed.ensures.value), omega (arith, less, c.raise-closed.ensures.value));
+      returned =
+          let r = now.returned in
+          (omega (arith, r.0, c.in-Ok.ensures.opened, c.close.ensures.opened), omega (arith, r.0, r.1, c.in-Ok.ensures.opened, c.close.ensures.opened, c.accept.ensures.closings, c.close.ensures.closings), omega (arith, r.0, r.2, c.in-Ok.ensures.opened, c.close.ensures.opened, c.accept.ensures.closings, c.close.ensures.closings));
       faults = omega (arith, now.faults, c.in-Ok.ensures.cause, c.close.ensures.kept);
     }
 

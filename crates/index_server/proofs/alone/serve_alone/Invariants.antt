@@ -1,8 +1,9 @@
-use Rattle.std.proofs.Common.{◌≡◌, ◌≤◌, ◌+◌, List}
+use Rattle.std.proofs.Common.{◌≡◌, ◌<◌, ◌≤◌, ◌+◌, List}
 use Rattle.counts.specs.Counts.{RoseBy}
 use Rattle.map_model.specs.History.{Entry}
 use Rattle.map_model.specs.Ordered.{Follows}
 use Rattle.index_server.specs.Connections.{ServesClosed}
+use Rattle.index_server.specs.Ends.{EachClosed}
 use Rattle.index_server.proofs.alone.serve_alone.Given as goal
 
 -- the connections closed so far had their sessions, and were counted
@@ -18,5 +19,7 @@ invariant-loop g l = record {
   fits : (history : List Entry) → g.T.Ordered.fits l.fn.store history → g.T.Ordered.fits l.store history;
   closings : RoseBy l.closed (g.D.Door.closings l.fn.door) (g.D.Door.closings l.door);
   most : g.D.Door.closings l.door ≤ g.D.Door.closings l.fn.door + l.closed;
+  opened : (0 < l.fn.sessions) → (g.D.Door.opened l.door ≡ g.D.Door.opened l.fn.door + l.closed) × (l.closed ≤ l.fn.sessions);
+  returned : EachClosed (g.D.Door.opened l.fn.door) (g.D.Door.opened l.door) (g.D.Door.closings l.fn.door) (g.D.Door.closings l.door);
   faults : g.D.Door.faults l.fn.door ≤ g.D.Door.faults l.door;
 }

@@ -1,5 +1,4 @@
-use Rattle.std.proofs.Common.{◌≡◌, subst, sym}
-use Rattle.std.specs.List.{AllByRecursion}
+use Rattle.std.proofs.Common.{subst}
 use mathlib.Core.List.{IsPrefix}
 use Rattle.index_server.proofs.server.serve_door.Goals as goal
 
@@ -15,8 +14,3 @@ returns-then-workers-eq1-clause-begins g c =
     let laws = g.met.T.Lanes g.world.𝓛 g.world.𝓜 g.world.𝓡 ((λ s x. x), (λ x. x), (λ x. x), λ x. x) in
     let now = c.serve_alone.ensures.served (g.T.Lanes.seen c.args.first.now) (laws.stands_seen c.args.first.now) in
     subst (IsPrefix (g.T.Lanes.seen c.args.first.now)) (laws.only_seen c.serve_alone.new.store now.0 now.1) now.2.grows.begins
-
-pub serve_shared-requires-clause-of : goal.serve_shared-requires-clause-of
-serve_shared-requires-clause-of g c κs within =
-    let f = c.in-Ok.ensures in
-    subst (λ o. AllByRecursion (λ t. (g.T.Ordered.origin t ≡ o) × (g.T.Ordered.room t ≡ 0)) c.in-Ok.lanes.items) (sym f.kept.2) f.of
