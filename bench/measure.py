@@ -19,6 +19,9 @@ TICKS = os.sysconf("SC_CLK_TCK")
 MOST_FOREIGN = 0.10
 """A round is dropped where other programs took more than this part of the processors while it ran."""
 
+TUNABLES = ("GLIBC_TUNABLES", "glibc.malloc.hugetlb=1")
+"""What `./worm` sets where it isn't set, and the bench for all programs."""
+
 Numbers = dict[str, float]
 
 
@@ -141,7 +144,7 @@ class Table:
         busy = sum(rounds.is_busy for rounds in self.rounds)
         kept = sum(len(rounds.kept) for rounds in self.rounds)
         loads = f"load {self.start} at the start, {load()} at the end"
-        print(f"\n{machine()}; {loads}; {kept} rounds in {len(self.rounds)} rows.")
+        print(f"\n{machine()}; {tunables()}; {loads}; {kept} rounds in {len(self.rounds)} rows.")
         unusable = sum(rounds.unusable for rounds in self.rounds)
         if unusable:
             print(f"Not used: {unusable} rounds, in which serving took no longer than what is taken off.")
@@ -167,6 +170,11 @@ def line(cells: list[str]) -> str:
 
 def percent(part: float) -> str:
     return f"{100 * part:.0f} %"
+
+
+def tunables() -> str:
+    name = TUNABLES[0]
+    return f"{name}={os.environ.get(name, '')}"
 
 
 def load() -> str:

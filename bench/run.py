@@ -7,6 +7,9 @@ It prints the tables of sessions, lanes, the server and its system calls, and bo
 where both lanes and the server were measured. There are at least 5 rounds, and ten times as many of a script that is over in a moment; with
 `--quick` there are 3, fewer scripts and fewer requests, in less than 4 minutes.
 
+The program runs as `./worm` runs it, with `GLIBC_TUNABLES=glibc.malloc.hugetlb=1` where GLIBC_TUNABLES isn't set, and the
+peer runs with the same. Each table's last lines say which.
+
 The peer is built by `rustc` with what it has to make it fast. The environment's WORM names another binary of the
 program than the one that `./worm` builds, and PEER another one of the peer, as one that was built of an older source."""
 
@@ -19,7 +22,7 @@ import subprocess
 
 from indexes import indexes_table
 from lanes import lanes_table
-from measure import BUILD, HERE, Plan, end
+from measure import BUILD, HERE, TUNABLES, Plan, end
 from picture import draw
 from server import calls_table, server_table
 from sessions import sessions_table
@@ -65,6 +68,7 @@ def asked() -> argparse.Namespace:
 
 def main() -> None:
     words = asked()
+    os.environ.setdefault(*TUNABLES)
     rounds = max(QUICK_ROUNDS if words.quick else LEAST_ROUNDS, words.rounds)
     plan = Plan(rounds, 1 if words.quick else 2, words.quick)
     os.makedirs(BUILD, exist_ok=True)

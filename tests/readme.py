@@ -3,14 +3,15 @@
 
     python3 tests/readme.py [--worm PATH_TO_WORM] [--list]
 
-A fresh clone has no program yet, so the first `./worm` proves and builds it, which takes minutes; `--worm` puts a built one
-there. `--list` shows the blocks and runs none. It ends with `readme: all is as printed`, or tells what isn't, with status 1.
+A fresh clone has no program yet, so the first `./try` compiles one, in a minute, and the first `./worm` proves and builds
+one, in an hour; `--worm` puts a built one where either looks for it. `--list` shows the blocks and runs none. It ends with `readme: all is as printed`, or tells what isn't, with status 1.
 
 How README.md marks its commands:
 
 - ```console: lines that begin with `$ ` are commands, those that begin with `> ` go on with the one before, and the others are
-  what it writes, on standard output or error. A line `...` stands for any lines. The commands of a block run in one shell, in
-  the clone's folder; what is left running in the background ends with the block.
+  what it writes, on standard output or error, but for what `./try` and `./worm` tell of their build. A line `...` stands for
+  any lines. The commands of a block run in one shell, in the clone's folder, one right behind the other, as they are pasted;
+  what is left running in the background ends with the block.
 - ```session: the first line is a command, as above. Of the others those that begin with a request's word are typed into it, each
   when all that stands before it has come, and the others are its replies.
 - A comment `<!-- skip: REASON -->` on the line before a block has it listed with the reason, and not run.
@@ -41,6 +42,7 @@ REPLY_PATIENCE = 30
 REQUESTS = ("PUT ", "GET ", "DEL ", "SCAN ", "QUIT")
 SKIP = re.compile(r"<!-- skip: (.+) -->")
 FENCE = re.compile(r"```(\w*)$")
+OF_BUILD = re.compile(r"try: (compiling|this build)|worm: (proving|\d+ of \d+ crates)")
 LINK = re.compile(r"\]\(([^()\s]+)\)")
 PATH = re.compile(r"`((?:bench|clients|crates|docs|tests|tools)/[\w./-]*)`")
 
@@ -135,14 +137,11 @@ class Shell:
         self.reader = Reader(self.process.stdout.fileno())
 
     def run(self, command: str) -> list[str]:
-        """The lines that the command writes. One in the background is given time to listen."""
+        """The lines that the command writes, without waiting for one in the background."""
         assert self.process.stdin is not None
-        is_behind = command.rstrip().endswith("&")
         # The shell's own input has the commands to come, which a program that reads mustn't take.
         self.process.stdin.write(f"{{ {command}\n}} </dev/null\necho; echo '{self.MARK}'\n".encode())
         self.process.stdin.flush()
-        if is_behind:
-            wait_for_port(command)
         return split(self.reader.until(f"\n{self.MARK}\n".encode(), PATIENCE))
 
     def close(self) -> None:
@@ -179,32 +178,12 @@ class Reader:
         return found
 
 
-def wait_for_port(command: str) -> None:
-    """Waits until somebody listens at the port that the command names, if it names one."""
-    port = re.search(r":(\d+)\b", command)
-    until = time.monotonic() + PATIENCE
-    while port and time.monotonic() < until and not is_listening(int(port[1])):
-        time.sleep(0.05)
-
-
-def is_listening(port: int) -> bool:
-    listens = "0A"
-    for path in ("/proc/net/tcp", "/proc/net/tcp6"):
-        if os.path.exists(path):
-            with open(path) as file:
-                rows = [line.split() for line in file.readlines()[1:]]
-            if any(row[1].endswith(f":{port:04X}") and row[3] == listens for row in rows):
-                return True
-    return False
-
-
 def run_console(block: Block, folder: str) -> None:
     shell = Shell(folder)
     try:
         for command in commands_of(block):
             found = shell.run(command.text)
-            # The program tells that it is built, once.
-            found = [line for line in found if line != "worm: building the proved program"]
+            found = [line for line in found if not OF_BUILD.match(line)]
             if not fits(found, command.output):
                 raise Wrong(f"`{command.text}` wrote {found}, printed is {command.output}")
     finally:
@@ -251,10 +230,10 @@ def clone(folder: str, worm: str | None) -> str:
     there = os.path.join(folder, "clone")
     subprocess.run(["git", "clone", "--quiet", "--no-hardlinks", TOP, there], check=True)
     if worm:
-        out = os.path.join(there, "crates", "worm", "out")
-        os.makedirs(out)
-        shutil.copy(worm, os.path.join(out, "worm"))
-        os.utime(os.path.join(out, "worm"))
+        for place in (".try", os.path.join("crates", "worm", "out")):
+            os.makedirs(os.path.join(there, place))
+            shutil.copy(worm, os.path.join(there, place, "worm"))
+            os.utime(os.path.join(there, place, "worm"))
     return there
 
 
