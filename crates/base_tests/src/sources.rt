@@ -58,7 +58,7 @@ fn answer_one(door: &mut MemDoor) -> Result<usize, Stop> {
     let mut buf = [0; 4];
     let n = input.read(&mut buf).unwrap_or(0).min(4);
     let _ = output.write(&buf[..n]);
-    door.close(input, output);
+    door.close(MemDoor::finish(input, output));
     Ok(n)
 }
 

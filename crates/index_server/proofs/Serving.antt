@@ -1,6 +1,5 @@
 -- How the sessions of one connection after another add up.
-use Rattle.std.proofs.Common.{◌≡◌, ℕ, ◌+◌, arith, length, length-append, List, [], ◌∷◌, ◌++◌, Bool, false, ◌||◌, refl, sym, ap, subst, ◌∙◌, append_assoc, Option, Some, None, Result, Ok, Err}
-use Rattle.std.proofs.Math.Seq.{take-nil}
+use Rattle.std.proofs.Common.{◌≡◌, ℕ, ◌+◌, arith, length, length-append, List, [], ◌∷◌, ◌++◌, Bool, false, ◌||◌, refl, sym, ap, subst, ◌∙◌, append_assoc, Option, Some, None}
 use Rattle.std.proofs.lemmas.List.{append-nil}
 use mathlib.Core.List.{IsPrefix}
 use Rattle.line_protocol.specs.Requests.{Asked}
@@ -9,11 +8,9 @@ use Rattle.map_model.specs.History.{Entry, IsLegal}
 use Rattle.map_model.specs.Ordered.{Follows, Grows}
 use Rattle.map_model.specs.declared.refusal.Refusal.{Refusal}
 use Rattle.map_model.proofs.Growing.{follows_weaker}
-use Rattle.outside.specs.Connections.{Connection, IsUnread, IsUnwritten, Closes}
-use Rattle.outside.specs.Moved.{moved}
+use Rattle.outside.specs.Connections.{Connection, IsUnread, IsUnwritten, Ends, Closes}
 use Rattle.outside.specs.Reading.{Told, Took, Ended}
 use Rattle.outside.specs.Writing.{Wrote}
-use Rattle.outside.specs.declared.stop.Stop.{Stop}
 use Rattle.session.specs.Sessions.{Session, InTurn, SaidBy}
 use Rattle.session.specs.Transcripts.{Exchange, Transcribes, AreServed}
 use Rattle.session.specs.declared.session.SessionEnd.{SessionEnd}
@@ -23,12 +20,6 @@ use Rattle.session.proofs.PlainSessions.{written_by, wrote_by}
 use Rattle.index_server.specs.Connections.{IsSession, AreSessions, ClosedBehind, AreClosed, ServesClosed}
 use Rattle.index_server.specs.Hands.{NothingFits, AreMany, ServesCounted, ServesMany}
 use Rattle.index_server.specs.declared.connection.TheConstants.{CONNECTION_BYTES}
-
--- an empty write leaves what was written
-pub wrote_none : (a b : Option (List ℕ)) (answer : Result ℕ Stop) → Wrote a b (moved answer []) → b ≡ a
-wrote_none None b answer wrote = wrote
-wrote_none (Some before) b (Ok n) wrote = wrote ∙ ap (λ more. Some (before ++ more)) (take-nil n) ∙ ap Some (append-nil before)
-wrote_none (Some before) b (Err stop) wrote = wrote ∙ ap Some (append-nil before)
 
 -- what a session said, where nothing had been said before
 said_first : (end : SessionEnd) (w v : Option (List ℕ)) (text : List ℕ) (said : SaidBy end w v text) → SaidBy end (Some []) (Some (written_by end w v text said)) text
@@ -48,19 +39,20 @@ pub record IsOne (t u : Option Told) (w v : Option (List ℕ)) (pieces : List Ex
   pub sessions : AreSessions (connection ∷ []) pieces
 
 -- where a door tells the connection that it closed, it is the one whose session it was
-closed_one : (before now : Option (List Connection)) (t u : Option Told) (w v : Option (List ℕ)) (bytes : List ℕ) (ended : Bool) (text : List ℕ)
-    → IsUnread t → IsUnwritten w → Took t u bytes → Ended t u ended → Wrote w v text → Closes before now u v → ClosedBehind before now (record { taken = bytes; ended = ended; written = text } ∷ [])
-closed_one before None t u w v bytes ended text unread unwritten took answered wrote closes = tt
-closed_one None (Some now) t u w v bytes ended text unread unwritten took answered wrote closes = absurd closes
-closed_one (Some before) (Some now) t None w v bytes ended text unread unwritten took answered wrote closes = absurd closes
-closed_one (Some before) (Some now) t (Some u) w None bytes ended text unread unwritten took answered wrote closes = absurd closes
-closed_one (Some before) (Some now) None (Some u) w (Some v) bytes ended text unread unwritten took answered wrote closes = absurd (cc took)
-closed_one (Some before) (Some now) (Some t) (Some u) None (Some v) bytes ended text unread unwritten took answered wrote closes = absurd (cc wrote)
-closed_one (Some before) (Some now) (Some t) (Some u) (Some w) (Some v) bytes ended text unread unwritten took answered wrote closes =
+closed_one : (before now : Option (List Connection)) (p : Option Connection) (t u : Option Told) (w v : Option (List ℕ)) (bytes : List ℕ) (ended : Bool) (text : List ℕ)
+    → IsUnread t → IsUnwritten w → Took t u bytes → Ended t u ended → Wrote w v text → Ends u v p → Closes before now p → ClosedBehind before now (record { taken = bytes; ended = ended; written = text } ∷ [])
+closed_one before None p t u w v bytes ended text unread unwritten took answered wrote told closes = tt
+closed_one None (Some now) p t u w v bytes ended text unread unwritten took answered wrote told closes = absurd closes
+closed_one (Some before) (Some now) None t u w v bytes ended text unread unwritten took answered wrote told closes = absurd closes
+closed_one (Some before) (Some now) (Some c) t None w v bytes ended text unread unwritten took answered wrote told closes = absurd told
+closed_one (Some before) (Some now) (Some c) t (Some u) w None bytes ended text unread unwritten took answered wrote told closes = absurd told
+closed_one (Some before) (Some now) (Some c) None (Some u) w (Some v) bytes ended text unread unwritten took answered wrote told closes = absurd (cc took)
+closed_one (Some before) (Some now) (Some c) (Some t) (Some u) None (Some v) bytes ended text unread unwritten took answered wrote told closes = absurd (cc wrote)
+closed_one (Some before) (Some now) (Some c) (Some t) (Some u) (Some w) (Some v) bytes ended text unread unwritten took answered wrote told closes =
     let given : u.given ≡ bytes = took.0 ∙ ap (λ g. g ++ bytes) unread.0 in
     let zero : u.ended ≡ ended = answered.0 ∙ ap (λ e. e || ended) unread.1 in
     let said : v ≡ text = (let s : Some v ≡ Some (w ++ text) = wrote in cc s) ∙ ap (λ x. x ++ text) unwritten in
-    closes ∙ (λ i. before ++ record { taken = given i; ended = zero i; written = said i } ∷ [])
+    closes ∙ (ap (λ (one : Connection). before ++ one ∷ []) told ∙ (λ i. before ++ record { taken = given i; ended = zero i; written = said i } ∷ []))
 
 closed_then : (a b c : Option (List Connection)) (first second : List Connection) → ClosedBehind a b first → ClosedBehind b c second → ClosedBehind a c (first ++ second)
 closed_then a b None first second p q = tt
@@ -120,11 +112,11 @@ module _ (lane : ℕ) (sole : Bool) (fits : List Entry → Type 0) where
           }
 
   -- it was closed
-  serves_one : (a b : List Entry → Type 0) (i j : ℕ) (m n : Option Refusal) (before now : Option (List Connection)) (end : SessionEnd) (t u : Option Told) (w v : Option (List ℕ))
-      → IsUnread t → IsUnwritten w → Closes before now u v → Session end CONNECTION_BYTES t u w v None lane sole fits i j m n a b → Follows a b (ServesClosed lane sole fits i j m n before now)
-  serves_one a b i j m n before now end t u w v unread unwritten closes s =
+  serves_one : (a b : List Entry → Type 0) (i j : ℕ) (m n : Option Refusal) (before now : Option (List Connection)) (end : SessionEnd) (t u : Option Told) (w v : Option (List ℕ)) (p : Option Connection)
+      → IsUnread t → IsUnwritten w → Ends u v p → Closes before now p → Session end CONNECTION_BYTES t u w v None lane sole fits i j m n a b → Follows a b (ServesClosed lane sole fits i j m n before now)
+  serves_one a b i j m n before now end t u w v p unread unwritten told closes s =
       transcribes_told None lane sole fits a b i j m n _ _ (IsOne t u w v) (AreClosed before now) (λ xs all. all)
-      (λ xs one. (one.connection ∷ [], closed_one before now t u w v one.connection.taken one.connection.ended one.connection.written unread unwritten one.took one.answered one.wrote closes, one.sessions))
+      (λ xs one. (one.connection ∷ [], closed_one before now p t u w v one.connection.taken one.connection.ended one.connection.written unread unwritten one.took one.answered one.wrote told closes, one.sessions))
       (session_one a b i j m n end t u w v s)
 
   -- it is counted
@@ -134,13 +126,13 @@ module _ (lane : ℕ) (sole : Bool) (fits : List Entry → Type 0) where
       transcribes_told None lane sole fits a b i j m n _ _ (IsOne t u w v) (AreMany 1) (λ xs all. all) (λ xs one. (one.connection ∷ [], refl, one.sessions)) (session_one a b i j m n end t u w v s)
 
 -- one connection more
-pub serves_more : (lane : ℕ) (sole : Bool) (fits less : List Entry → Type 0) (a b c : List Entry → Type 0) (i j k : ℕ) (l m n : Option Refusal) (before now later : Option (List Connection)) (end : SessionEnd) (t u : Option Told) (w v : Option (List ℕ))
-    → ((h : List Entry) → fits h → less h) → IsUnread t → IsUnwritten w → Closes now later u v
+pub serves_more : (lane : ℕ) (sole : Bool) (fits less : List Entry → Type 0) (a b c : List Entry → Type 0) (i j k : ℕ) (l m n : Option Refusal) (before now later : Option (List Connection)) (end : SessionEnd) (t u : Option Told) (w v : Option (List ℕ)) (p : Option Connection)
+    → ((h : List Entry) → fits h → less h) → IsUnread t → IsUnwritten w → Ends u v p → Closes now later p
     → Session end CONNECTION_BYTES t u w v None lane sole less j k m n b c → Follows a b (ServesClosed lane sole fits i j l m before now) → Follows a c (ServesClosed lane sole fits i k l n before later)
-serves_more lane sole fits less a b c i j k l m n before now later end t u w v fewer unread unwritten closes s first =
+serves_more lane sole fits less a b c i j k l m n before now later end t u w v p fewer unread unwritten told closes s first =
     transcribes_then None lane sole fits a b c less i j k l m n _ _ _ (AreClosed before now) (AreClosed now later) (AreClosed before later) fewer (λ xs ys p q. tt)
     (λ xs ys any p q. (p.0 ++ q.0, closed_then before now later p.0 q.0 p.1 q.1, sessions_then p.0 q.0 xs ys p.2 q.2))
-    first (serves_one lane sole less b c j k m n now later end t u w v unread unwritten closes s)
+    first (serves_one lane sole less b c j k m n now later end t u w v p unread unwritten told closes s)
 
 -- no connection is counted yet
 pub counted_rested : (lane : ℕ) (sole : Bool) (a b : List Entry → Type 0) (i j : ℕ) (u v : Option Refusal) (many : ℕ) → ((old : List Entry) → a old → IsLegal old) → j ≡ i → v ≡ u → 0 ≡ many → Follows a b (λ old new. new ≡ old) → Follows a b (ServesCounted lane sole i j u v many)

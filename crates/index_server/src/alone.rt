@@ -54,7 +54,7 @@ pub fn serve_alone<R: Wait + Sync, T: Ordered, D: Door>(
         match door.accept() {
             Ok((mut input, mut output)) => {
                 serve_connection(rt, alloc, store, &mut input, &mut output);
-                door.close(input, output);
+                door.close(D::finish(input, output));
                 closed = raise(closed);
             }
             Err(Stop::Failed) => return DoorEnd::DoorFault,

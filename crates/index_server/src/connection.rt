@@ -14,8 +14,7 @@ use std::sync::Wait;
 /// How many bytes of a connection are taken at most: 1 TiB.
 pub const CONNECTION_BYTES: u64 = 1_099_511_627_776;
 
-/// Gives a connection its session, and leaves the store at rest. The empty write behind the last reply lets the output
-/// hand on what waits: no later read does.
+/// Gives a connection its session, and leaves the store at rest.
 pub(crate) fn serve_connection<R: Wait + Sync, T: Ordered, S: Source, K: Sink>(
     rt: &R,
     alloc: Global,
@@ -36,6 +35,4 @@ pub(crate) fn serve_connection<R: Wait + Sync, T: Ordered, S: Source, K: Sink>(
 {
     let mut patience = Endless::new(rt);
     serve(alloc, store, input, output, &mut patience, CONNECTION_BYTES);
-    // A client that is gone misses its replies, and no one else is to hear of it.
-    let _ = output.write(&[]);
 }

@@ -30,9 +30,9 @@ use std::thread::Threads;
 /// another lane is in its way, and takes at most `CONNECTION_BYTES` bytes. A worker's lane rests while the worker waits
 /// for a connection; an accept that has no memory is tried again. At the end all forks are ended into `first`.
 ///
-/// One worker is the caller's own thread, with no fork and no lock. More accept and close under one lock, so that a
-/// served connection may wait for the next one to be accepted before it is closed. Where a worker's thread can't be
-/// started, its work is done on the caller's.
+/// One worker is the caller's own thread, with no fork and no lock. More accept and close under one lock. A connection
+/// that was served has ended before its worker asks for the lock, so no client waits for it. Where a worker's thread
+/// can't be started, its work is done on the caller's.
 ///
 /// Refused are more workers than `first` has room for, and any for which there is no memory. Then no connection was
 /// accepted, and the forks that were made are ended too. The room that a fork took doesn't come back with its end.

@@ -94,14 +94,13 @@ impl<D: Door, B: Begun> SharedDoor<D, B> {
         }
     }
 
-    /// Gives a connection back, and counts it in the worker's share.
-    pub(crate) fn close(&mut self, input: D::Input, output: D::Output, share: &mut Share<B>)
-        requires part { 0 < share.old.parts }
-        requires own { D.Input.connection input ≡ D.Output.connection output }
+    /// Gives a connection back that has ended, and counts it in the worker's share.
+    pub(crate) fn close(&mut self, ended: D::Ended, share: &mut Share<B>)
+        requires { 0 < share.old.parts }
         ensures counted { share.new.amount ≡ share.old.amount + 1 }
         ensures part { share.new.parts ≡ share.old.parts }
     {
-        self.door.close(input, output);
+        self.door.close(ended);
         self.book.add(share, 1);
         self.closed = raise(self.closed);
     }

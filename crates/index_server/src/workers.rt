@@ -38,7 +38,8 @@ pub(crate) fn work<B: Begun, R: Wait + Sync, T: Ordered, D: Door>(
         match next {
             Next::Serve(mut input, mut output) => {
                 serve_connection(rt, alloc, store, &mut input, &mut output);
-                door.lock(rt).close(input, output, share);
+                let ended = D::finish(input, output);
+                door.lock(rt).close(ended, share);
             }
             Next::AskAgain => {}
             Next::Leave => return,

@@ -39,6 +39,6 @@ pub told_with_room : (overfull : Bool) (room : ℕ) (closed now : List Connectio
 told_with_room true room closed now connection less is = refl
 told_with_room false room closed now connection less is = ap Some is ∙ cond_below (length closed) room (Some (closed ++ connection ∷ [])) None less
 
-pub closes_behind : (overfull : Bool) (closed now : List Connection) (input : MemSource) (output : MemSink) → now ≡ closed ++ connection_of input output ∷ [] → Closes (if overfull then None else Some closed) (if overfull then None else Some now) (Some (told_of input)) (Some (written_of output))
+pub closes_behind : (overfull : Bool) (closed now : List Connection) (input : MemSource) (output : MemSink) → now ≡ closed ++ connection_of input output ∷ [] → Closes (if overfull then None else Some closed) (if overfull then None else Some now) (Some (connection_of input output))
 closes_behind true closed now input output is = tt
 closes_behind false closed now input output is = is

@@ -24,10 +24,16 @@ abbrev pub Opens : {T : Type 0} → ℕ → ℕ → Result T Stop → Type 0
 Opens before now (Ok ends) = now ≡ before + 1
 Opens before now (Err stop) = now ≡ before
 
--- Where a door tells its closed connections after a close, it told them before, both ends told, and their connection stands behind those before.
-abbrev pub Closes : Option (List Connection) → Option (List Connection) → Option Told → Option (List ℕ) → Type 0
-Closes before None told written = Unit {0}
-Closes None (Some now) told written = ⊥
-Closes (Some before) (Some now) None written = ⊥
-Closes (Some before) (Some now) (Some t) None = ⊥
-Closes (Some before) (Some now) (Some t) (Some w) = now ≡ before ++ record { taken = t.given; ended = t.ended; written = w } ∷ []
+-- Where a connection that has ended tells, both of its ends told, and it tells what they did.
+abbrev pub Ends : Option Told → Option (List ℕ) → Option Connection → Type 0
+Ends told written None = Unit {0}
+Ends None written (Some connection) = ⊥
+Ends (Some t) None (Some connection) = ⊥
+Ends (Some t) (Some w) (Some connection) = connection ≡ record { taken = t.given; ended = t.ended; written = w }
+
+-- Where a door tells its closed connections after a close, it told them before, the one that it took back tells, and it stands behind those before.
+abbrev pub Closes : Option (List Connection) → Option (List Connection) → Option Connection → Type 0
+Closes before None past = Unit {0}
+Closes None (Some now) past = ⊥
+Closes (Some before) (Some now) None = ⊥
+Closes (Some before) (Some now) (Some connection) = now ≡ before ++ connection ∷ []

@@ -2,9 +2,10 @@
 use Rattle.std.specs.Prelude.{ℕ, ◌+◌, ◌-◌, ◌^◌, min, List, [], ◌∷◌, ◌++◌, map, drop, length, nat_lt, Option, Some, None, Bool, ◌||◌, ◌==◌, if◌then◌else◌}
 use Rattle.std.specs.Global.{Vec}
 use Rattle.outside.specs.Connections.{Connection}
-use Rattle.outside.specs.Memory.{told_of, written_of}
+use Rattle.outside.specs.Memory.{told_of, written_of, source_connection}
 use Rattle.outside.specs.Plans.{Planned, planned, next_call, fails_next}
 use Rattle.outside.specs.declared.mem_door.MemDoor.{MemDoor}
+use Rattle.outside.specs.declared.mem_door.MemEnded.{MemEnded}
 use Rattle.outside.specs.declared.memory.MemSource.{MemSource}
 use Rattle.outside.specs.declared.memory.MemSink.{MemSink}
 
@@ -39,6 +40,14 @@ after_accept d = record {
 -- a connection as its ends tell it
 abbrev pub connection_of : MemSource → MemSink → Connection
 connection_of input output = record { taken = (told_of input).given; ended = (told_of input).ended; written = written_of output }
+
+-- a connection that has ended, as its ends tell it
+abbrev pub past_of : MemEnded → Connection
+past_of ended = connection_of ended.input ended.output
+
+-- its number
+abbrev pub number_of : MemEnded → ℕ
+number_of ended = source_connection ended.input
 
 -- the connections of inputs and outputs, pair by pair
 abbrev pub connections : List MemSource → List MemSink → List Connection

@@ -13,7 +13,7 @@ mod stop;
 
 pub use door::Door;
 pub use gate::{Gate, OpenGate};
-pub use mem_door::MemDoor;
+pub use mem_door::{MemDoor, MemEnded};
 pub use memory::{MemSink, MemSource};
 pub use sink::Sink;
 pub use source::Source;

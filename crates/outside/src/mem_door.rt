@@ -63,17 +63,43 @@ impl MemDoor {
     }
 }
 
+/// A connection that has ended, with what its ends tell.
+#[derive(Drop)]
+pub struct MemEnded {
+    input: MemSource,
+    output: MemSink,
+}
+
+impl MemEnded {
+    ghost use Rattle.outside.specs.Memory.{written_of};
+    ghost use Rattle.outside.specs.MemoryDoor.{past_of};
+
+    /// What its client got.
+    pub fn into_output(self) -> MemSink
+        ensures { written_of result ≡ (past_of self).written }
+    {
+        let MemEnded { output, .. } = self;
+        output
+    }
+}
+
 impl Door for MemDoor {
     type Input = MemSource;
 
     type Output = MemSink;
 
+    type Ended = MemEnded;
+
     ghost use Rattle.std.specs.Prelude.{◌∷◌, ◌↔◌, IsTrue, if◌then◌else◌};
     ghost use Rattle.outside.specs.Causes.{FaultsCounted};
-    ghost use Rattle.outside.specs.Connections.{IsUnread, IsUnwritten, Opens, Closes};
+    ghost use Rattle.outside.specs.Connections.{IsUnread, IsUnwritten, Opens, Ends, Closes};
     ghost use Rattle.outside.specs.Memory.{told_of, piece_of, source_plan, source_connection, written_of, sink_plan, sink_connection};
-    ghost use Rattle.outside.specs.MemoryDoor.{waiting_of, opened_of, room_of, door_plan, accept_fails, after_accept, connection_of, closed_of, told_after};
+    ghost use Rattle.outside.specs.MemoryDoor.{waiting_of, opened_of, room_of, door_plan, accept_fails, after_accept, connection_of, past_of, number_of, closed_of, told_after};
     ghost use Rattle.outside.specs.Plans.{fails_next, after_call};
+
+    ghost past = { λ ended. Some (past_of ended) };
+
+    ghost number = { λ ended. number_of ended };
 
     ghost closed = { λ d. closed_of d };
 
@@ -139,15 +165,22 @@ impl Door for MemDoor {
         Ok((source.of_connection(number), sink.of_connection(number)))
     }
 
-    fn close(&mut self, input: MemSource, output: MemSink)
+    fn finish(input: MemSource, output: MemSink) -> MemEnded
         requires { source_connection input ≡ sink_connection output }
-        ensures closed { Closes (closed_of self.old) (closed_of self.new) (Some (told_of input)) (Some (written_of output)) }
+        ensures past { Ends (Some (told_of input)) (Some (written_of output)) (Some (past_of result)) }
+        ensures number { number_of result ≡ source_connection input }
+    {
+        MemEnded { input, output }
+    }
+
+    fn close(&mut self, ended: MemEnded)
+        ensures closed { Closes (closed_of self.old) (closed_of self.new) (Some (past_of ended)) }
         ensures closings { self.new.closings ≡ min (self.old.closings + 1) (2 ^ 64 - 1) }
         ensures opened { opened_of self.new ≡ opened_of self.old }
         ensures kept { (door_plan self.new).faults ≡ (door_plan self.old).faults }
 
         // What is told is known: a close for which there is no room ends it.
-        ensures told { closed_of self.new ≡ told_after (room_of self.old) (closed_of self.old) (connection_of input output) }
+        ensures told { closed_of self.new ≡ told_after (room_of self.old) (closed_of self.old) (past_of ended) }
         ensures plan { door_plan self.new ≡ door_plan self.old }
         ensures waiting { waiting_of self.new ≡ waiting_of self.old }
         ensures room { room_of self.new ≡ room_of self.old }
@@ -156,6 +189,7 @@ impl Door for MemDoor {
         if self.outputs.len() == self.inputs.len() {
             self.overfull = true;
         } else {
+            let MemEnded { input, output } = ended;
             self.sources.push_reserved(input);
             self.outputs.push_reserved(output);
         }

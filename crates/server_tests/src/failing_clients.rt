@@ -1,12 +1,13 @@
 //! Clients that fail in the middle: each ends its own connection alone.
 ghost use Rattle.std.specs.Prelude.{◌≡◌, None, Some, IfOk};
 ghost use Rattle.outside.specs.Connections.{IsUnread, IsUnwritten};
+ghost use Rattle.outside.specs.MemoryDoor.{number_of};
 ghost use Rattle.outside.specs.Memory.{told_of, written_of, source_connection, sink_connection};
 
 use counts::raise;
 use index_server::{DoorEnd, serve_alone};
 use map_model::PlainMap;
-use outside::{Door, MemSink, MemSource, Stop};
+use outside::{Door, MemDoor, MemEnded, MemSink, MemSource, Stop};
 use std::alloc::{AllocError, Global};
 use std::sync::Wait;
 
@@ -48,6 +49,12 @@ impl Door for FailingClients<'_> {
 
     type Output = MemSink;
 
+    type Ended = MemEnded;
+
+    ghost past = { λ ended. None };
+
+    ghost number = { λ ended. number_of ended };
+
     ghost closed = { λ d. None };
 
     ghost opened = { λ d. d.accepted };
@@ -74,9 +81,13 @@ impl Door for FailingClients<'_> {
         }
     }
 
-    fn close(&mut self, _input: MemSource, output: MemSink) {
+    fn finish(input: MemSource, output: MemSink) -> MemEnded {
+        MemDoor::finish(input, output)
+    }
+
+    fn close(&mut self, ended: MemEnded) {
         self.closings = raise(self.closings);
-        let _ = self.outputs.push(output);
+        let _ = self.outputs.push(ended.into_output());
     }
 }
 

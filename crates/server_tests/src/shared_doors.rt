@@ -1,6 +1,7 @@
 //! A server with two workers: two connections are served at the same time, each has the replies to its own requests,
 //! and what the workers did is seen by the first lane at the end.
 ghost use Rattle.std.specs.Prelude.{None, ◌≡◌, [], IfOk};
+ghost use Rattle.outside.specs.MemoryDoor.{number_of};
 ghost use Rattle.outside.specs.Memory.{source_plan, source_connection, sink_plan, sink_connection};
 
 use crate::memory_doors::{door_of, has_written};
@@ -8,7 +9,7 @@ use counts::raise;
 use index_server::{DoorEnd, serve_door};
 use lane_stores::SharedMap;
 use map_model::{ForkFault, Lanes, Ordered};
-use outside::{Door, MemSink, MemSource, Sink, Source, Stop};
+use outside::{Door, MemDoor, MemEnded, MemSink, MemSource, Sink, Source, Stop};
 use session::{Bounded, SessionEnd, serve};
 use std::alloc::{AllocError, Global};
 use std::sync::Wait;
@@ -128,6 +129,12 @@ impl<'a> Door for TwoClients<'a> {
 
     type Output = Telling<'a>;
 
+    type Ended = MemEnded;
+
+    ghost past = { λ ended. None };
+
+    ghost number = { λ ended. number_of ended };
+
     ghost closed = { λ d. None };
 
     ghost opened = { λ d. d.accepted };
@@ -153,10 +160,15 @@ impl<'a> Door for TwoClients<'a> {
         Ok(ends)
     }
 
-    fn close(&mut self, _input: Waiting<'a>, output: Telling<'a>) {
-        self.closings = raise(self.closings);
+    fn finish(input: Waiting<'a>, output: Telling<'a>) -> MemEnded {
+        let Waiting { bytes: sent, .. } = input;
         let Telling { bytes, .. } = output;
-        let _ = self.outputs.push(bytes);
+        MemDoor::finish(sent, bytes)
+    }
+
+    fn close(&mut self, ended: MemEnded) {
+        self.closings = raise(self.closings);
+        let _ = self.outputs.push(ended.into_output());
     }
 }
 

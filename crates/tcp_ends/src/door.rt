@@ -1,7 +1,7 @@
 //! A door over TCP.
 ghost use Rattle.std.specs.Prelude.{◌≡◌, ◌<◌, ◌-◌, ◌^◌, IfOk};
 
-use crate::ends::{TcpSink, TcpSource, ends_of};
+use crate::ends::{TcpEnded, TcpSink, TcpSource, end_connection, ends_of};
 use counts::raise;
 use outside::{Door, Stop};
 use std::alloc::Global;
@@ -9,7 +9,11 @@ use std::io;
 use std::io::ErrorKind;
 use std::net::{Net, SocketAddr, TcpListener, TcpStream};
 
-// Errors of Linux that are no kind of their own.
+// Errors of Linux, some of which are no kind of their own.
+const EPERM: i32 = 1;
+
+const EAGAIN: i32 = 11;
+
 const ENFILE: i32 = 23;
 
 const EMFILE: i32 = 24;
@@ -17,6 +21,10 @@ const EMFILE: i32 = 24;
 const ENONET: i32 = 64;
 
 const EPROTO: i32 = 71;
+
+const ENOPROTOOPT: i32 = 92;
+
+const EOPNOTSUPP: i32 = 95;
 
 const ENOBUFS: i32 = 105;
 
@@ -88,10 +96,7 @@ impl<'a, R> TcpDoor<'a, R> {
         let stream = self.next_stream()?;
         // Without it a reply could wait until the one before it has been acknowledged. It is served all the same.
         let _ = stream.set_nodelay(true);
-        match stream.try_clone() {
-            Ok(other) => Ok(ends_of(self.alloc, stream, other, self.opened)?),
-            Err(_) => Err(Stop::NoMemory),
-        }
+        Ok(ends_of(self.alloc, stream, self.opened)?)
     }
 }
 
@@ -107,7 +112,7 @@ enum Blame {
 }
 
 // Linux hands errors of a new connection's network on to whoever accepts it, and says that these are to be asked
-// again.
+// again. A firewall rule gives EPERM.
 fn blame_for(error: &io::Error) -> Blame {
     match error.kind() {
         ErrorKind::Interrupted
@@ -119,8 +124,8 @@ fn blame_for(error: &io::Error) -> Blame {
         | ErrorKind::TimedOut => Blame::Client,
         ErrorKind::OutOfMemory => Blame::Memory,
         _ => match error.raw_os_error() {
-            Some(EPROTO | ENONET | EHOSTDOWN) => Blame::Client,
-            Some(EMFILE | ENFILE | ENOBUFS) => Blame::Memory,
+            Some(EPERM | EPROTO | ENONET | ENOPROTOOPT | EOPNOTSUPP | EHOSTDOWN) => Blame::Client,
+            Some(EAGAIN | EMFILE | ENFILE | ENOBUFS) => Blame::Memory,
             _ => Blame::Door,
         },
     }
@@ -131,8 +136,14 @@ impl<R: Net<Listener = TcpListener, Stream = TcpStream>> Door for TcpDoor<'_, R>
 
     type Output = TcpSink;
 
+    type Ended = TcpEnded;
+
     ghost use Rattle.std.specs.Prelude.{None};
-    ghost use Rattle.tcp_ends.specs.Doors.{door_opened, door_closings, door_faults};
+    ghost use Rattle.tcp_ends.specs.Doors.{door_opened, door_closings, door_faults, ended_connection};
+
+    ghost past = { λ ended. None };
+
+    ghost number = { λ ended. ended_connection ended };
 
     ghost closed = { λ d. None };
 
@@ -169,7 +180,11 @@ impl<R: Net<Listener = TcpListener, Stream = TcpStream>> Door for TcpDoor<'_, R>
         }
     }
 
-    fn close(&mut self, _input: TcpSource, _output: TcpSink) {
+    fn finish(input: TcpSource, output: TcpSink) -> TcpEnded {
+        end_connection(input, output)
+    }
+
+    fn close(&mut self, _ended: TcpEnded) {
         self.closings = raise(self.closings);
     }
 }

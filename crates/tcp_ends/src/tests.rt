@@ -23,8 +23,7 @@ fn waits(client: &mut TcpStream) -> bool {
         && client.set_read_timeout(None).is_ok()
 }
 
-// Whether replies are collected until the source has to ask the client for more, and again until the output ends; and
-// whether the client sees the end then, and no more is written.
+// Whether replies are collected until the source has to ask the client for more, and again until the connection ends.
 fn talks(client: &mut TcpStream, input: &mut TcpSource, output: &mut TcpSink) -> bool {
     let mut buf = [0; 16];
     let asked = client.write_all(b"ask\nQUIT\nmore\n").is_ok() && input.read(&mut buf) == Ok(14);
@@ -32,9 +31,8 @@ fn talks(client: &mut TcpStream, input: &mut TcpSource, output: &mut TcpSink) ->
     let shut = client.shutdown(Shutdown::Write).is_ok();
     let handed = input.read(&mut buf) == Ok(0) && reads(client, b"reply\n");
     let said = output.write(b"BYE\n") == Ok(4) && waits(client);
-    let ended = output.write(&[]) == Ok(0) && reads(client, b"BYE\n") && reads(client, &[]);
-    let closed = output.write(b"x") == Err(Stop::Failed) && output.write(&[]) == Ok(0);
-    asked && collected && shut && handed && said && ended && closed
+    let empty = output.write(&[]) == Ok(0) && waits(client);
+    asked && collected && shut && handed && said && empty
 }
 
 // Whether a client that connects to the door is talked to.
@@ -54,7 +52,11 @@ fn serves_a_client<R: Net<Listener = TcpListener, Stream = TcpStream>>(
     let Ok((mut input, mut output)) = door.accept() else {
         return false;
     };
-    unheard && listens && talks(&mut client, &mut input, &mut output)
+    let talked = talks(&mut client, &mut input, &mut output);
+    let ended = TcpDoor::<R>::finish(input, output);
+    let seen = reads(&mut client, b"BYE\n") && reads(&mut client, &[]);
+    door.close(ended);
+    unheard && listens && talked && seen
 }
 
 #[test]

@@ -53,7 +53,7 @@ loop-preserved-in-Ok g c =
     record {
       can = search rules;
       finite = search rules;
-      serves = serves_more _ _ _ _ _ _ _ _ _ _ _ _ _ _ _ _ one.session.0 _ _ _ _ now.fits c.in-Ok.ensures.unread c.in-Ok.ensures.unwritten (rw c.accept.ensures.closed at c.close.ensures.closed) (rw (now.lane, now.sole) at one.session.1) now.serves;
+      serves = serves_more _ _ _ _ _ _ _ _ _ _ _ _ _ _ _ _ one.session.0 _ _ _ _ _ now.fits c.in-Ok.ensures.unread c.in-Ok.ensures.unwritten c.finish.ensures.past (rw c.accept.ensures.closed at c.close.ensures.closed) (rw (now.lane, now.sole) at one.session.1) now.serves;
       lane = one.kept.0 ∙ now.lane;
       sole = one.kept.1 ∙ now.sole;
       origin = one.kept.2 ∙ now.origin;

@@ -12,12 +12,12 @@ returns-then-len-clause-told c =
 pub returns-else-len-clause-closed : goal.returns-else-len-clause-closed
 returns-else-len-clause-closed c =
     let d = c.args.self.now in
-    let is : connections c.push_reserved.new.self.items c.push_reserved-else-len.new.self.items ≡ connections d.sources.items d.outputs.items ++ connection_of c.args.input c.args.output ∷ [] = rw (c.push_reserved.ensures.items, c.push_reserved-else-len.ensures.items) (one_more d.sources.items d.outputs.items c.args.input c.args.output d.paired) in
-    closes_behind d.overfull _ _ c.args.input c.args.output is
+    let is : connections c.push_reserved.new.self.items c.push_reserved-else-len.new.self.items ≡ connections d.sources.items d.outputs.items ++ connection_of c.args.ended.input c.args.ended.output ∷ [] = rw (c.push_reserved.ensures.items, c.push_reserved-else-len.ensures.items) (one_more d.sources.items d.outputs.items c.args.ended.input c.args.ended.output d.paired) in
+    closes_behind d.overfull _ _ c.args.ended.input c.args.ended.output is
 
 pub returns-else-len-clause-told : goal.returns-else-len-clause-told
 returns-else-len-clause-told c =
     let d = c.args.self.now in
-    let is : connections c.push_reserved.new.self.items c.push_reserved-else-len.new.self.items ≡ connections d.sources.items d.outputs.items ++ connection_of c.args.input c.args.output ∷ [] = rw (c.push_reserved.ensures.items, c.push_reserved-else-len.ensures.items) (one_more d.sources.items d.outputs.items c.args.input c.args.output d.paired) in
+    let is : connections c.push_reserved.new.self.items c.push_reserved-else-len.new.self.items ≡ connections d.sources.items d.outputs.items ++ connection_of c.args.ended.input c.args.ended.output ∷ [] = rw (c.push_reserved.ensures.items, c.push_reserved-else-len.ensures.items) (one_more d.sources.items d.outputs.items c.args.ended.input c.args.ended.output d.paired) in
     let less : length (connections d.sources.items d.outputs.items) < length d.inputs.items = omega (arith, as_many d.sources.items d.outputs.items d.paired, d.most, c.if-len.false, c.len.ensures, c.len-2.ensures) in
     told_with_room d.overfull _ _ _ _ less is
