@@ -1,6 +1,6 @@
 //! Clients that fail in the middle: each ends its own connection alone.
 ghost use Rattle.std.specs.Prelude.{◌≡◌, None, Some, IfOk};
-ghost use Rattle.outside.specs.Connections.{IsUnread, IsUnwritten};
+ghost use Rattle.outside.specs.Connections.{IsUnread, IsUnwritten, Ends};
 ghost use Rattle.outside.specs.MemoryDoor.{number_of};
 ghost use Rattle.outside.specs.Memory.{told_of, written_of, source_connection, sink_connection};
 
@@ -81,7 +81,11 @@ impl Door for FailingClients<'_> {
         }
     }
 
-    fn finish(input: MemSource, output: MemSink) -> MemEnded {
+    fn finish(input: MemSource, output: MemSink) -> MemEnded
+        requires { source_connection input ≡ sink_connection output }
+        ensures past { Ends (Some (told_of input)) (Some (written_of output)) None }
+        ensures number { number_of result ≡ source_connection input }
+    {
         MemDoor::finish(input, output)
     }
 

@@ -1,6 +1,7 @@
 //! A server with two workers: two connections are served at the same time, each has the replies to its own requests,
 //! and what the workers did is seen by the first lane at the end.
 ghost use Rattle.std.specs.Prelude.{None, ◌≡◌, [], IfOk};
+ghost use Rattle.outside.specs.Connections.{Ends};
 ghost use Rattle.outside.specs.MemoryDoor.{number_of};
 ghost use Rattle.outside.specs.Memory.{source_plan, source_connection, sink_plan, sink_connection};
 
@@ -160,7 +161,11 @@ impl<'a> Door for TwoClients<'a> {
         Ok(ends)
     }
 
-    fn finish(input: Waiting<'a>, output: Telling<'a>) -> MemEnded {
+    fn finish(input: Waiting<'a>, output: Telling<'a>) -> MemEnded
+        requires { source_connection input.bytes ≡ sink_connection output.bytes }
+        ensures past { Ends None None None }
+        ensures number { number_of result ≡ source_connection input.bytes }
+    {
         let Waiting { bytes: sent, .. } = input;
         let Telling { bytes, .. } = output;
         MemDoor::finish(sent, bytes)
