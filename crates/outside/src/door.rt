@@ -9,7 +9,7 @@ use crate::{Sink, Source, Stop};
 /// ends, which have its number.
 ///
 /// A connection that was served is ended by both of its own ends, and what is left of it is given back: where the types
-/// are not known, neither can be let go otherwise. So none is closed before its replies were handed on, and nothing is
+/// are not known, neither can be let go otherwise. So none is closed before it was ended, and nothing is
 /// written behind its end.
 pub trait Door {
     /// What a client sends.
