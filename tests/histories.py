@@ -2,18 +2,19 @@
 """Runs random scripts by `worm lanes`, and looks for one history of each run: an order of all calls, each lane's as
 they stand in its script, in which every reply is what one map answers there.
 
-    python3 tests/histories.py PATH_TO_WORM [--runs 1000] [--big 4] [--seed 1]
+    python3 tests/histories.py PATH_TO_WORM [--runs 300] [--big 4] [--seed 1]
 
 The runs have 2 to 4 lanes, 8 keys that all of them use, and tables so small that splits, merges and refusals are common.
 Each lane also has keys of its own between these, whose replies are known; lanes begin with some calls on them, so that
-all threads are there before the shared keys are used. A scan is taken for a read of each key by itself, in ascending order,
+all threads are there before the shared keys are used. A lane's script is over in a millisecond, so most are long: what
+counts are the runs in which lanes met, so that no order of whole lanes is legal. Their share is told, and is above a half. A scan is taken for a read of each key by itself, in ascending order,
 since its parts come at moments of their own; what is legal so may still not be by leaves. A refusal is no call.
 
 The big runs have 64 lanes of 1,000 lines. No order is searched for there: replies on a lane's own keys are compared, down to
 a scan of them all at its end, and of keys that all lanes use the counts of NEW and GONE, and that nobody sees what one lane
 put in another order.
 
-It ends with status 1 at the first run that isn't legal, and keeps that run's script and output. It takes a minute or two."""
+It ends with status 1 at the first run that isn't legal, and keeps that run's script and output. It takes some minutes."""
 
 from __future__ import annotations
 
@@ -39,10 +40,12 @@ from worm import Delete, Get, Pair, Put, Request, Scan, unescape  # noqa: E402
 # No run takes so long that a lane doesn't wait in vain.
 PATIENCE = 400
 KEYS = 8
-# How many calls a lane makes on keys that all use. Short scripts are searched whole; threads meet in long ones.
-CALLS = [8, 30, 100, 300]
+# How many calls a lane makes on keys that all use. Threads meet in long scripts.
+CALLS = [30, 1_500, 3_000, 3_000]
+# How many calls on its own keys a lane makes at most before them, for each lane that begins behind it.
+FIRST_CALLS = 1_000
 MOST_PLACES = 200_000
-PROGRESS = 250
+PROGRESS = 50
 AGAIN = re.compile(
     rb"AGAIN (locked \d+ \d+|changed \d+ \d+ \d+|stale \d+ \d+ \d+|moved \d+ \d+|turn \d+|pinned \d+ \d+|bin \d+"
     rb"|filled \d+ \d+ \d+)"
@@ -149,7 +152,7 @@ def own_request(draw: random.Random, keys: list[bytes], value: bytes) -> Request
 def script_of(draw: random.Random, lane: int, lanes: int, shared: list[bytes], own: list[bytes]) -> list[Request]:
     """Some calls on keys of its own, the more the earlier its thread begins, and then calls on either."""
     values = (b"%d.%d" % (lane, number) for number in itertools.count())
-    first = draw.randrange(1 + 250 * (lanes - lane))
+    first = draw.randrange(1 + FIRST_CALLS * (lanes - lane))
     script = [own_request(draw, own, next(values)) for _ in range(first)]
     for _ in range(draw.choice(CALLS)):
         script += [own_request(draw, own, next(values)) for _ in range(draw.choice([0, 0, 0, 1, 2]))]
@@ -429,7 +432,7 @@ def keep(run: Run, worm: str, seed: int, what: str) -> None:
 def main() -> None:
     parser = argparse.ArgumentParser(description=__doc__, formatter_class=argparse.RawDescriptionHelpFormatter)
     parser.add_argument("worm")
-    parser.add_argument("--runs", type=int, default=1_000)
+    parser.add_argument("--runs", type=int, default=300)
     parser.add_argument("--big", type=int, default=4)
     parser.add_argument("--seed", type=int, default=1)
     asked = parser.parse_args()
@@ -445,7 +448,7 @@ def main() -> None:
             print(f"{seed + 1 - asked.seed} runs, {time.monotonic() - start:.0f} s", flush=True)
     print(
         f"{asked.runs} runs: {tally.verdicts[Verdict.LEGAL]} legal, {tally.verdicts[Verdict.UNDECIDED]} not decided; in"
-        f" {tally.mixed} the lanes weren't one after another; {time.monotonic() - start:.0f} s\n  {tally.text()}"
+        f" {tally.mixed} ({tally.mixed / max(asked.runs, 1):.0%}) lanes met; {time.monotonic() - start:.0f} s\n  {tally.text()}"
     )
     for seed in range(asked.seed, asked.seed + asked.big):
         start, tally = time.monotonic(), Tally()

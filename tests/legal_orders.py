@@ -10,7 +10,6 @@ such place once. Two things keep it small:
 
 from __future__ import annotations
 
-from collections import Counter
 from dataclasses import dataclass
 from enum import Enum
 
@@ -55,8 +54,8 @@ class Search:
         self.lanes = lanes
         self.keys = keys
         self.most = most
-        # For each lane and each place in it: which values are still to be read from there on, and how often.
-        self.readings = [readings_behind(calls) for calls in lanes]
+        # For each lane where each value is read for the last time.
+        self.last_readings = [last_readings(calls) for calls in lanes]
 
     def verdict(self) -> Verdict:
         start = self.with_reads(Place((0,) * len(self.lanes), (None,) * self.keys))
@@ -102,21 +101,15 @@ class Search:
     def is_to_be_read(self, place: Place, value: Value) -> bool:
         if value is None:
             return False
-        return any(readings[at][value] for readings, at in zip(self.readings, place.reached))
+        return any(last.get(value, -1) >= at for last, at in zip(self.last_readings, place.reached))
 
 
 def is_read_of(call: Call, map: tuple[Value, ...]) -> bool:
     return isinstance(call, Read) and map[call.key] == call.value
 
 
-def readings_behind(calls: list[Call]) -> list[Counter[bytes]]:
-    behind: list[Counter[bytes]] = [Counter()]
-    for call in reversed(calls):
-        next_one = behind[-1]
-        if isinstance(call, Read) and call.value is not None:
-            next_one = next_one + Counter([call.value])
-        behind.append(next_one)
-    return behind[::-1]
+def last_readings(calls: list[Call]) -> dict[bytes, int]:
+    return {call.value: at for at, call in enumerate(calls) if isinstance(call, Read) and call.value is not None}
 
 
 def is_lane_after_lane(lanes: list[list[Call]], keys: int, order: tuple[int, ...]) -> bool:
