@@ -73,14 +73,10 @@ fn by_four<R: Threads + Sync, T: Lanes>(rt: &R, alloc: Global, mut first: T) -> 
         rt,
         move ||
             requires { T.origin second ≡ T.origin first }
-        {
-            by_two(rt, alloc, first, second, [b'a', b'b'])
-        },
+        { by_two(rt, alloc, first, second, [b'a', b'b']) },
         move ||
             requires { T.origin fourth ≡ T.origin third }
-        {
-            by_two(rt, alloc, third, fourth, [b'c', b'd'])
-        },
+        { by_two(rt, alloc, third, fourth, [b'c', b'd']) },
     );
     third.end(&mut first);
     one.saturating_add(two)
