@@ -10,6 +10,7 @@ from __future__ import annotations
 
 import os
 import random
+import resource
 import select
 import signal
 import socket
@@ -418,6 +419,66 @@ def quit_with_much_behind(worm: str) -> str:
                 raw.sendall(b"PUT a 1\nQUIT\n" + b"GET a\n" * (16_667 if number % 2 else 100_000))
                 same(read_all(raw), b"NEW\nBYE\n" if number == 0 else b"SET\nBYE\n", f"replies to client {number}")
     return "200 of 200 clients with 100 or 600 kB behind QUIT read BYE and the end"
+
+
+@case
+def quit_beside_a_worker_that_waits(worm: str) -> str:
+    with server(worm, "--workers", "2") as running, running.raw() as raw:
+        # The other worker has the door meanwhile, since no second client comes.
+        sender = threading.Thread(target=send_until_gone, args=(raw, b"QUIT\n" + b"x" * 20_000_000), daemon=True)
+        start = time.monotonic()
+        sender.start()
+        same(read_all(raw), b"BYE\n", "replies to QUIT with 20 MB behind it")
+        if time.monotonic() - start > PATIENCE / 2:
+            raise Failed("the end came late")
+    return "20 MB behind QUIT, while the other worker waits for a client: BYE and the end"
+
+
+def send_until_gone(raw: socket.socket, data: bytes) -> None:
+    try:
+        raw.sendall(data)
+    except OSError:
+        pass
+
+
+@case
+def descriptors_go_with_their_clients(worm: str) -> str:
+    with server(worm, "--workers", "64", "--lanes", "64") as running:
+        before = descriptors(running)
+        clients = [running.client() for _ in range(40)]
+        for number, client in enumerate(clients):
+            client.put(b"client %d" % number, b"1")
+        most = descriptors(running)
+        for client in clients:
+            client.close()
+        until = time.monotonic() + 2
+        while descriptors(running) > before and time.monotonic() < until:
+            time.sleep(0.01)
+        same(descriptors(running), before, "open descriptors two seconds after the last client")
+        same(most - before, len(clients), "descriptors of the clients at once")
+    return "40 clients at once have a descriptor each, and none when they are gone"
+
+
+def descriptors(running: Server) -> int:
+    return len(os.listdir(f"/proc/{running.process.pid}/fd"))
+
+
+@case
+def fewer_descriptors_than_clients(worm: str) -> str:
+    with server(worm, "--workers", "8", "--lanes", "64") as running:
+        few = descriptors(running) + 4
+        resource.prlimit(running.process.pid, resource.RLIMIT_NOFILE, (few, few))
+        at_once(12, lambda number: is_served_late(running, number))
+        for number in range(30):
+            is_served_late(running, number)
+    return "12 clients of 8 workers with 4 descriptors, and 30 after them, are all answered"
+
+
+def is_served_late(running: Server, number: int) -> None:
+    """A client waits in the system's queue until a descriptor is free."""
+    with running.client() as client:
+        client.put(b"late %d" % number, b"%d" % number)
+        same(client.get(b"late %d" % number), b"%d" % number, f"the value of client {number}")
 
 
 @case
