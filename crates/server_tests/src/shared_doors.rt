@@ -164,7 +164,7 @@ impl<'a> Door for TwoClients<'a> {
     fn finish(input: Waiting<'a>, output: Telling<'a>) -> MemEnded
         requires { source_connection input.bytes ≡ sink_connection output.bytes }
         ensures past { Ends None None None }
-        ensures number { number_of result ≡ source_connection input.bytes }
+        ensures number { number_of result ≡ source_connection input.entry.bytes }
     {
         let Waiting { bytes: sent, .. } = input;
         let Telling { bytes, .. } = output;

@@ -1,4 +1,7 @@
 //! Tests of what no clause says: which bytes go between a client and the ends of its connection, and when.
+ghost use Rattle.std.specs.Prelude.{◌≡◌};
+ghost use Rattle.tcp_ends.specs.Doors.{source_connection, sink_connection};
+
 use super::*;
 use outside::{Door, Sink, Source, Stop};
 use std::alloc::Global;
@@ -24,15 +27,20 @@ fn waits(client: &mut TcpStream) -> bool {
 }
 
 // Whether replies are collected until the source has to ask the client for more, and again until the connection ends.
-fn talks(client: &mut TcpStream, input: &mut TcpSource, output: &mut TcpSink) -> bool {
+fn talks(client: &mut TcpStream, input: &mut TcpSource, output: &mut TcpSink) -> bool
+    ensures input { source_connection input.new ≡ source_connection input.old }
+    ensures output { sink_connection output.new ≡ sink_connection output.old }
+{
     let mut buf = [0; 16];
-    let asked = client.write_all(b"ask\nQUIT\nmore\n").is_ok() && input.read(&mut buf) == Ok(14);
-    let collected = output.write(b"reply\n") == Ok(6) && waits(client);
-    let shut = client.shutdown(Shutdown::Write).is_ok();
-    let handed = input.read(&mut buf) == Ok(0) && reads(client, b"reply\n");
-    let said = output.write(b"BYE\n") == Ok(4) && waits(client);
-    let empty = output.write(&[]) == Ok(0) && waits(client);
-    asked && collected && shut && handed && said && empty
+    let sent = client.write_all(b"ask\nQUIT\nmore\n").is_ok();
+    let asked = input.read(&mut buf) == Ok(14);
+    let collected = output.write(b"reply\n") == Ok(6);
+    let silent = waits(client) && client.shutdown(Shutdown::Write).is_ok();
+    let ended = input.read(&mut buf) == Ok(0);
+    let handed = reads(client, b"reply\n");
+    let said = output.write(b"BYE\n") == Ok(4);
+    let empty = output.write(&[]) == Ok(0);
+    sent && asked && collected && silent && ended && handed && said && empty && waits(client)
 }
 
 // Whether a client that connects to the door is talked to.
