@@ -9,7 +9,7 @@ use std::alloc::Global;
 
 const LANES_GIVEN: u32 = 2;
 
-const LEAF_0: u32 = 18;
+const LEAF_0: u32 = 546;
 
 // The second lane gets number 1 and locks leaf 0, whose word then names it to the first lane.
 fn second_lane_locks(alloc: Global, shape: &Shape) -> bool
